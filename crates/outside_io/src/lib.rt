@@ -1,8 +1,13 @@
 //! The outside: shelves that files are fetched from, and sinks that text is put to.
 #![tactic(auto)]
 
+mod listed;
+mod memory_sink;
+mod putting;
 mod shelf;
 mod sink;
 
+pub use memory_sink::MemorySink;
+pub use putting::{WriteStop, put_all};
 pub use shelf::{Fetched, Shelf, ShelfFault};
 pub use sink::{Sink, SinkFailed};
