@@ -1,1 +1,2 @@
+pub mod ShelfTexts
 pub mod TakesLemmas

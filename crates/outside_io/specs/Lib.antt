@@ -1,3 +1,5 @@
 pub mod Outside
 pub mod Counts
+pub mod Reading
+pub mod ShelfState
 pub mod SinkState

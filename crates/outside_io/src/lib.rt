@@ -2,11 +2,14 @@
 #![tactic(auto)]
 
 mod listed;
+mod memory_shelf;
 mod memory_sink;
 mod putting;
+mod reading;
 mod shelf;
 mod sink;
 
+pub use memory_shelf::MemoryShelf;
 pub use memory_sink::MemorySink;
 pub use putting::{WriteStop, put_all};
 pub use shelf::{Fetched, Shelf, ShelfFault};

@@ -33,7 +33,12 @@ impl Model for MemorySink {
 
 impl MemorySink {
     /// `room` and `piece` are numbers of bytes; the puts in `fails` are numbered from 1.
-    pub fn new(alloc: Global, room: usize, piece: usize, fails: &[u32]) -> Result<MemorySink, AllocError>
+    pub fn new(
+        alloc: Global,
+        room: usize,
+        piece: usize,
+        fails: &[u32],
+    ) -> Result<MemorySink, AllocError>
         requires { 1 ≤ piece }
         ensures { IfOk result (λ sink. sink ≡ record { bytes = []; room = room; piece = piece; failing = fails.now; puts = 0; faults = 0 }) }
     {

@@ -8,5 +8,5 @@ pub loop-done-preserved : goal.loop-done-preserved
 loop-done-preserved g c = record {
   within = omega (arith, c.in-Ok.ensures.within);
   front = Takes-more _ _ _ _ _ _ c.loop-done.invariant.front (rw take_rest at c.in-Ok.ensures.took);
-  quiet = c.in-Ok.ensures.quiet ∙ c.loop-done.invariant.quiet
+  quiet = c.in-Ok.ensures.quiet ∙ c.loop-done.invariant.quiet;
 }

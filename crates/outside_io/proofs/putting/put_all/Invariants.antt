@@ -7,7 +7,7 @@ abbrev pub invariant-loop-done : goal.invariant-loop-done
 invariant-loop-done g l = record {
   within : l.done ≤ length l.text;
   front : Takes (g.S.Sink.taken l.initial.sink) (g.S.Sink.taken l.sink) (take l.done l.text);
-  quiet : g.S.Sink.faults l.sink ≡ g.S.Sink.faults l.initial.sink
+  quiet : g.S.Sink.faults l.sink ≡ g.S.Sink.faults l.initial.sink;
 }
 
 abbrev pub decreases-loop-done : goal.decreases-loop-done
