@@ -86,3 +86,39 @@ impl<'a, R: Files> Shelf for HostShelf<'a, R> {
         fetched
     }
 }
+
+#[cfg(test)]
+mod tests {
+    use super::*;
+    use std::test::Fail;
+
+    const PATH: &str = "outside_io_host_shelf_test.txt";
+
+    fn length_at<R: Files>(shelf: &mut HostShelf<'_, R>, alloc: Global, limit: usize) -> Option<usize> {
+        match shelf.fetch(alloc, PATH, limit) {
+            Ok(Fetched::Whole(text)) => Some(text.len()),
+            _ => None,
+        }
+    }
+
+    #[test]
+    fn fetches_a_file_within_the_limit(rt: HostRuntime) -> Result<(), Fail> {
+        let mut shelf = HostShelf::new(&rt);
+        let missing = shelf.fetch(rt.alloc(), PATH, 9);
+        assert!(rt; matches!(&missing, Err(ShelfFault::Failed)));
+        assert_eq!(rt; shelf.faults, 1);
+        assert!(rt; matches!(&shelf.last, Some(name) if name.as_str() == PATH));
+
+        let text = vec![in rt.alloc(); b'a'; 5000]?;
+        fs::write(&rt, PATH, text.as_slice())?;
+        let at = length_at(&mut shelf, rt.alloc(), 5000);
+        let above = length_at(&mut shelf, rt.alloc(), usize::MAX);
+        let below = shelf.fetch(rt.alloc(), PATH, 4999);
+        fs::remove_file(&rt, PATH)?;
+        assert_eq!(rt; at, Some(5000));
+        assert_eq!(rt; above, Some(5000));
+        assert!(rt; matches!(&below, Ok(Fetched::TooLong)));
+        assert_eq!(rt; shelf.faults, 1);
+        Ok(())
+    }
+}

@@ -72,3 +72,61 @@ impl<W: Write + Drop> Sink for HostSink<W> {
         count
     }
 }
+
+#[cfg(test)]
+mod tests {
+    use super::*;
+    use std::io;
+    use std::io::ErrorKind;
+    use std::test::Fail;
+
+    #[derive(Clone, Copy, Debug)]
+    enum Stream {
+        Takes(usize),
+        Fails,
+        FailsToFlush,
+    }
+
+    impl Write for Stream {
+        fn write(&mut self, buf: &[u8]) -> io::Result<usize> {
+            match self {
+                Stream::Takes(count) => Ok(buf.len().min(*count)),
+                Stream::Fails => Err(io::Error::from(ErrorKind::Other)),
+                Stream::FailsToFlush => Ok(buf.len()),
+            }
+        }
+
+        fn flush(&mut self) -> io::Result<()> {
+            match self {
+                Stream::FailsToFlush => Err(io::Error::from(ErrorKind::Other)),
+                _ => Ok(()),
+            }
+        }
+    }
+
+    #[test]
+    fn counts_each_put_that_fails(rt: HostRuntime) {
+        let cases = [
+            (Stream::Takes(2), "abc", Ok(2)),
+            (Stream::Takes(9), "abc", Ok(3)),
+            (Stream::Takes(0), "abc", Err(SinkFailed)),
+            (Stream::Takes(0), "", Ok(0)),
+            (Stream::Fails, "abc", Err(SinkFailed)),
+            (Stream::FailsToFlush, "abc", Err(SinkFailed)),
+        ];
+        for (stream, piece, expected) in cases {
+            let mut sink = HostSink::new(stream);
+            assert_eq!(rt; sink.put(piece.as_bytes()), expected, "at {stream:?}");
+            assert_eq!(rt; sink.faults, u64::from(expected.is_err()), "at {stream:?}");
+        }
+    }
+
+    #[test]
+    fn writes_to_the_stream(rt: HostRuntime) -> Result<(), Fail> {
+        let mut sink = HostSink::new(Vec::new(rt.alloc()));
+        assert_eq!(rt; sink.put(b"abc".as_slice()), Ok(3));
+        assert_eq!(rt; sink.put(b"de".as_slice()), Ok(2));
+        assert_eq!(rt; sink.writer.as_slice(), b"abcde".as_slice());
+        Ok(())
+    }
+}

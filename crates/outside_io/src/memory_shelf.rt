@@ -111,3 +111,31 @@ impl Shelf for MemoryShelf {
         Err(ShelfFault::Failed)
     }
 }
+
+#[cfg(test)]
+mod tests {
+    use super::*;
+    use std::test::Fail;
+
+    #[test]
+    fn fetches_what_was_added_last(rt: HostRuntime) -> Result<(), Fail> {
+        let mut shelf = MemoryShelf::new(rt.alloc(), &[6])?;
+        shelf.add("a.py", b"old text".as_slice())?;
+        shelf.add("b.py", b"".as_slice())?;
+        shelf.add("a.py", b"x=1".as_slice())?;
+        let fetches = [("a.py", 3), ("a.py", 2), ("a.py", 4), ("b.py", 0), ("c.py", 9), ("a.py", 3), ("a.py", 3)];
+        let gives = ["x=1", "too long", "x=1", "", "failed", "failed", "x=1"];
+        for ((name, limit), expected) in fetches.iter().zip(gives) {
+            match shelf.fetch(rt.alloc(), name, *limit) {
+                Ok(Fetched::Whole(text)) => assert_eq!(rt; text.as_slice(), expected.as_bytes()),
+                Ok(Fetched::TooLong) => assert_eq!(rt; expected, "too long"),
+                Err(ShelfFault::Failed) => assert_eq!(rt; expected, "failed"),
+                Err(ShelfFault::Memory) => assert_eq!(rt; expected, "memory"),
+            }
+        }
+        assert_eq!(rt; shelf.fetches, 7);
+        assert_eq!(rt; shelf.faults, 2);
+        assert!(rt; matches!(&shelf.last, Some(name) if name.as_str() == "a.py"));
+        Ok(())
+    }
+}

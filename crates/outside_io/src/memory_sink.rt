@@ -106,3 +106,23 @@ impl Sink for MemorySink {
         Ok(count)
     }
 }
+
+#[cfg(test)]
+mod tests {
+    use super::*;
+    use std::test::Fail;
+
+    #[test]
+    fn takes_what_fits_a_put(rt: HostRuntime) -> Result<(), Fail> {
+        let mut sink = MemorySink::new(rt.alloc(), 5, 3, &[3])?;
+        let pieces = ["abcd", "", "d", "defg", "fg", ""];
+        let taken = [Ok(3), Ok(0), Err(SinkFailed), Ok(2), Err(SinkFailed), Ok(0)];
+        for (piece, expected) in pieces.iter().zip(taken) {
+            assert_eq!(rt; sink.put(piece.as_bytes()), expected, "at {piece}");
+        }
+        assert_eq!(rt; sink.bytes(), b"abcde".as_slice());
+        assert_eq!(rt; sink.puts, 6);
+        assert_eq!(rt; sink.faults, 2);
+        Ok(())
+    }
+}

@@ -29,3 +29,32 @@ pub fn put_all<S: Sink>(sink: &mut S, text: &[u8]) -> Result<(), WriteStop>
     }
     Ok(())
 }
+
+#[cfg(test)]
+mod tests {
+    use super::*;
+    use crate::memory_sink::MemorySink;
+    use std::test::Fail;
+
+    #[test]
+    fn puts_pieces_until_one_fails(rt: HostRuntime) -> Result<(), Fail> {
+        let text = b"x: int\ny: int\n".as_slice();
+        let mut sink = MemorySink::new(rt.alloc(), 64, 4, &[2])?;
+        assert_eq!(rt; put_all(&mut sink, text), Err(WriteStop { done: 4 }));
+        assert_eq!(rt; sink.bytes(), b"x: i".as_slice());
+
+        // The second put was the one that failed, so the rest of the text follows.
+        assert_eq!(rt; put_all(&mut sink, &text[4..]), Ok(()));
+        assert_eq!(rt; sink.bytes(), text);
+        assert_eq!(rt; put_all(&mut sink, b"".as_slice()), Ok(()));
+        Ok(())
+    }
+
+    #[test]
+    fn stops_where_there_is_no_room(rt: HostRuntime) -> Result<(), Fail> {
+        let mut sink = MemorySink::new(rt.alloc(), 5, 3, &[])?;
+        assert_eq!(rt; put_all(&mut sink, b"abcdefg".as_slice()), Err(WriteStop { done: 5 }));
+        assert_eq!(rt; sink.bytes(), b"abcde".as_slice());
+        Ok(())
+    }
+}

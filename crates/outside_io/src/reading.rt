@@ -50,3 +50,35 @@ pub(crate) fn read_within<F: Read>(
         }
     }
 }
+
+#[cfg(test)]
+mod tests {
+    use super::*;
+    use std::io;
+    use std::io::ErrorKind;
+
+    /// Gives two bytes, and then fails.
+    #[derive(Drop)]
+    struct Broken {
+        given: bool,
+    }
+
+    impl Read for Broken {
+        fn read(&mut self, buf: &mut [u8]) -> io::Result<usize> {
+            if self.given || buf.len() < 2 {
+                return Err(io::Error::from(ErrorKind::Other));
+            }
+            self.given = true;
+            buf[0] = b'h';
+            buf[1] = b'i';
+            Ok(2)
+        }
+    }
+
+    #[test]
+    fn gives_nothing_of_a_read_that_fails(rt: HostRuntime) {
+        let mut file = Broken { given: false };
+        let fetched = read_within(rt.alloc(), &mut file, 9);
+        assert!(rt; matches!(&fetched, Err(ShelfFault::Failed)));
+    }
+}
