@@ -1,1 +1,6 @@
 pub mod Outside
+pub mod Counts
+pub mod HostShelfState
+pub mod Reading
+pub mod ShelfState
+pub mod SinkState

@@ -1,0 +1,2 @@
+pub mod ShelfTexts
+pub mod TakesLemmas

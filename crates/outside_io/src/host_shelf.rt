@@ -1,0 +1,124 @@
+//! A shelf over real files.
+ghost use Rattle.std.specs.Prelude.{◌≡◌, ◌≤◌, ⊤, None, Some, IfOk, IsErrOf, OnOk};
+ghost use Rattle.outside_io.specs.Counts.{next_count};
+ghost use Rattle.outside_io.specs.HostShelfState.{HostShelfState};
+ghost use Rattle.outside_io.specs.Outside.{Rose};
+ghost use Rattle.outside_io.specs.Reading.{IsWithin};
+
+use crate::reading::read_within;
+use crate::shelf::{Fetched, Shelf, ShelfFault};
+use std::alloc::Global;
+use std::fs;
+use std::marker::Model;
+use std::rt::Files;
+
+/// Fetches files by their paths. It doesn't tell what they hold.
+#[derive(Drop)]
+pub struct HostShelf<'a, R: Files> {
+    rt: &'a R,
+    last: Option<String>,
+    faults: u64,
+}
+
+impl<'a, R: Files> Model for HostShelf<'a, R> {
+    ghost use Rattle.std.specs.Prelude.{string_bytes};
+    ghost use Rattle.std.specs.Option.{option_map};
+    ghost use Rattle.outside_io.specs.HostShelfState.{HostShelfState};
+
+    ghost Value = { HostShelfState };
+
+    ghost view = { λ s. record { faults = s.faults; last = option_map string_bytes s.last } };
+}
+
+impl<'a, R: Files> HostShelf<'a, R> {
+    /// A shelf over the files of this runtime.
+    pub fn new(rt: &'a R) -> HostShelf<'a, R>
+        ensures { result ≡ record { faults = 0; last = None } }
+    {
+        HostShelf {
+            rt,
+            last: None,
+            faults: 0,
+        }
+    }
+}
+
+fn read_file<R: Files>(
+    rt: &R,
+    alloc: Global,
+    name: &str,
+    limit: usize,
+) -> Result<Fetched, ShelfFault>
+    ensures { IfOk result (IsWithin limit) }
+{
+    match fs::open(rt, name) {
+        Ok(mut file) => read_within(alloc, &mut file, limit),
+        Err(_) => Err(ShelfFault::Failed),
+    }
+}
+
+impl<'a, R: Files> Shelf for HostShelf<'a, R> {
+    ghost held = { λ _. None };
+
+    ghost faults = { λ s. s.faults };
+
+    ghost last = { λ s. s.last };
+
+    fn fetch(&mut self, alloc: Global, name: &str, limit: usize) -> Result<Fetched, ShelfFault>
+        ensures given { IfOk result (λ _. ⊤) }
+        ensures failed { IsErrOf result ShelfFault.Failed → Rose self.old.faults self.new.faults × (self.new.last ≡ Some name.now) }
+        ensures quiet { OnOk result ((self.new.faults ≡ self.old.faults) × (self.new.last ≡ self.old.last)) }
+        ensures quiet_memory { IsErrOf result ShelfFault.Memory → (self.new.faults ≡ self.old.faults) × (self.new.last ≡ self.old.last) }
+        ensures counted { self.old.faults ≤ self.new.faults }
+
+        // A failure is counted once, and what is given whole is within the limit.
+        ensures lost { IsErrOf result ShelfFault.Failed → self.new ≡ record { faults = next_count self.old.faults; last = Some name.now } }
+        ensures within { IfOk result (IsWithin limit) }
+    {
+        let Ok(own) = String::from_str(alloc, name) else {
+            return Err(ShelfFault::Memory);
+        };
+        let fetched = read_file(self.rt, alloc, name, limit);
+        if let Err(ShelfFault::Failed) = fetched {
+            self.faults = self.faults.saturating_add(1);
+            self.last = Some(own);
+        }
+        fetched
+    }
+}
+
+#[cfg(test)]
+mod tests {
+    use super::*;
+    use std::test::Fail;
+
+    const PATH: &str = "outside_io_host_shelf_test.txt";
+
+    fn length_at<R: Files>(shelf: &mut HostShelf<'_, R>, alloc: Global, limit: usize) -> Option<usize> {
+        match shelf.fetch(alloc, PATH, limit) {
+            Ok(Fetched::Whole(text)) => Some(text.len()),
+            _ => None,
+        }
+    }
+
+    #[test]
+    fn fetches_a_file_within_the_limit(rt: HostRuntime) -> Result<(), Fail> {
+        let mut shelf = HostShelf::new(&rt);
+        let missing = shelf.fetch(rt.alloc(), PATH, 9);
+        assert!(rt; matches!(&missing, Err(ShelfFault::Failed)));
+        assert_eq!(rt; shelf.faults, 1);
+        assert!(rt; matches!(&shelf.last, Some(name) if name.as_str() == PATH));
+
+        let text = vec![in rt.alloc(); b'a'; 5000]?;
+        fs::write(&rt, PATH, text.as_slice())?;
+        let at = length_at(&mut shelf, rt.alloc(), 5000);
+        let above = length_at(&mut shelf, rt.alloc(), usize::MAX);
+        let below = shelf.fetch(rt.alloc(), PATH, 4999);
+        fs::remove_file(&rt, PATH)?;
+        assert_eq!(rt; at, Some(5000));
+        assert_eq!(rt; above, Some(5000));
+        assert!(rt; matches!(&below, Ok(Fetched::TooLong)));
+        assert_eq!(rt; shelf.faults, 1);
+        Ok(())
+    }
+}
