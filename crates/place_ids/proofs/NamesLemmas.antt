@@ -3,6 +3,7 @@ use Rattle.std.proofs.Common.{◌≡◌, ℕ, suc, Result, Ok, Err, OnOk, IfOk, 
 use Rattle.std.specs.List.{list_any, position_or_len, AllByRecursion, AllZip, IsDistinct}
 use Rattle.std.specs.Str.{bytes_eq}
 use Rattle.std.proofs.lemmas.Slice.Eq.{bytes_eq-Decides}
+use Rattle.std.proofs.lemmas.List.{length-map}
 use Rattle.std.proofs.lemmas.List.Folds.{list_any_at}
 use Rattle.std.proofs.lemmas.List.Quantifiers.{position-Some}
 use Rattle.std.proofs.lemmas.List.Sums.{position_or_len_is}
@@ -11,36 +12,39 @@ use Rattle.std.proofs.lemmas.Option.{get_or_from_slice_get, slice_get-get_or, sl
 use Rattle.indexmap.specs.IndexSet.{insert_key}
 use Rattle.place_ids.specs.Names.{has_name, with_name, number_in}
 
+-- no texts: none stands twice
+pub IsDistinct-empty : IsDistinct bytes_eq []
+IsDistinct-empty = IsDistinct-from_apart bytes_eq [] (λ i j d before within. absurd (omega (arith, within)))
+
 module _ {K : Type 0} (bytes : K → List ℕ) where
   -- a test of the bytes passes in the list of keys where it passes in the list of their bytes
-  pub list_any-map : (test : List ℕ → Bool) (keys : List K) → list_any test (map bytes keys) ≡ list_any (λ k. test (bytes k)) keys
+  list_any-map : (test : List ℕ → Bool) (keys : List K) → list_any test (map bytes keys) ≡ list_any (λ k. test (bytes k)) keys
   list_any-map test [] = refl
   list_any-map test (k ∷ keys) = ap (λ rest. test (bytes k) || rest) (list_any-map test keys)
 
   -- and first at the same place
-  pub position_or_len-map : (test : List ℕ → Bool) (keys : List K) → position_or_len test (map bytes keys) ≡ position_or_len (λ k. test (bytes k)) keys
+  position_or_len-map : (test : List ℕ → Bool) (keys : List K) → position_or_len test (map bytes keys) ≡ position_or_len (λ k. test (bytes k)) keys
   position_or_len-map test [] = refl
   position_or_len-map test (k ∷ keys) = ap (λ rest. cond (not (test (bytes k))) (1 + rest) 0) (position_or_len-map test keys)
 
-  pub length-map_bytes : (keys : List K) → length (map bytes keys) ≡ length keys
-  length-map_bytes [] = refl
-  length-map_bytes (k ∷ keys) = ap (λ rest. suc rest) (length-map_bytes keys)
-
-  pub position-map : (test : List ℕ → Bool) (keys : List K) → position test (map bytes keys) ≡ position (λ k. test (bytes k)) keys
+  -- so a search finds the same place, or none
+  position-map : (test : List ℕ → Bool) (keys : List K) → position test (map bytes keys) ≡ position (λ k. test (bytes k)) keys
   position-map test keys =
       ap (λ n. cond (nat_lt n (length (map bytes keys))) (Some n) None) (position_or_len-map test keys)
-      ∙ ap (λ n. cond (nat_lt (position_or_len (λ k. test (bytes k)) keys) n) (Some (position_or_len (λ k. test (bytes k)) keys)) None) (length-map_bytes keys)
+      ∙ ap (λ n. cond (nat_lt (position_or_len (λ k. test (bytes k)) keys) n) (Some (position_or_len (λ k. test (bytes k)) keys)) None) (length-map keys bytes)
 
+  -- a text that differs from each key's differs from each text
   all_apart : (text : List ℕ) (keys : List K) → AllByRecursion (λ k. bytes_eq text (bytes k) ≡ false) keys → AllByRecursion (λ other. bytes_eq text other ≡ false) (map bytes keys)
   all_apart text [] apart = tt
   all_apart text (k ∷ keys) apart = (apart.0, all_apart text keys apart.1)
 
   -- keys that differ in their bytes give texts that differ
   pub IsDistinct-map : (keys : List K) → IsDistinct (λ a b. bytes_eq (bytes a) (bytes b)) keys → IsDistinct bytes_eq (map bytes keys)
-  IsDistinct-map [] apart = IsDistinct-from_apart bytes_eq [] (λ i j d before within. absurd (omega (arith, within)))
+  IsDistinct-map [] apart = IsDistinct-empty
   IsDistinct-map (k ∷ keys) apart =
       IsDistinct-cons bytes_eq (bytes k) (map bytes keys) (all_apart (bytes k) keys (IsDistinct-head _ k keys apart)) (IsDistinct-map keys (IsDistinct-tail _ k keys apart))
 
+  -- a new key's text stands at the end
   map-push : (keys : List K) (k : K) → map bytes (keys ++ k ∷ []) ≡ map bytes keys ++ bytes k ∷ []
   map-push [] k = refl
   map-push (key ∷ keys) k = ap (λ rest. bytes key ∷ rest) (map-push keys k)
@@ -60,6 +64,7 @@ module _ {K : Type 0} (bytes : K → List ℕ) where
   map-IsClone (k ∷ keys) [] same = absurd same
   map-IsClone (k ∷ keys) (copy ∷ copies) same = λ i. same.0 i ∷ map-IsClone keys copies same.1 i
 
+-- the place after n, as a look-up computes it
 one_more : (n : ℕ) → 1 + n ≡ suc n
 one_more n = omega arith
 
@@ -118,6 +123,7 @@ number_in-at names text id apart at =
     (λ k before. bytes_eq-flip (get_or names k text) text (subst (λ t. bytes_eq (get_or names k text) t ≡ false) is (apart_from_distinct bytes_eq names k id text apart before within)))
     (λ _. (bytes_eq-Decides text (get_or names id text)).1 (sym is))
 
+-- and a search finds it there
 pub position-at : (names : List (List ℕ)) (text : List ℕ) (id : ℕ) → IsDistinct bytes_eq names → slice_get names id ≡ Some text → position (bytes_eq text) names ≡ Some id
 position-at names text id apart at =
     let within : id < length names = slice_get_within names id text at in
@@ -132,18 +138,17 @@ slice_get-end (name ∷ names) text = slice_get-end names text
 
 -- What a search for a text among the keys of a set finds.
 module _ {K : Type 0} (bytes : K → List ℕ) (keys : List K) (names : List (List ℕ)) (seen : map bytes keys ≡ names) (text : List ℕ) where
+  -- the text that was looked for stands at the place that was found
   pub found_place : (place : ℕ) → Some place ≡ position (λ k. bytes_eq text (bytes k)) keys → slice_get names place ≡ Some text
   found_place place found =
       let first : position (bytes_eq text) names ≡ Some place = subst (λ ns. position (bytes_eq text) ns ≡ Some place) seen (position-map bytes (bytes_eq text) keys ∙ sym found) in
       let facts = position-Some (bytes_eq text) names place text first in
       slice_get-get_or names place text facts.0 ∙ ap (λ t. Some t) (sym ((bytes_eq-Decides text (get_or names place text)).0 facts.1))
 
+  -- a text that stands at a place is found there
   pub found_at : IsDistinct bytes_eq (map bytes keys) → (r : Option ℕ) → r ≡ position (λ k. bytes_eq text (bytes k)) keys → (id : ℕ) → slice_get names id ≡ Some text → r ≡ Some id
   found_at apart r is id at =
       is ∙ sym (position-map bytes (bytes_eq text) keys) ∙ ap (position (bytes_eq text)) seen ∙ position-at names text id (subst (IsDistinct bytes_eq) seen apart) at
-
-pub IsDistinct-empty : IsDistinct bytes_eq []
-IsDistinct-empty = IsDistinct-from_apart bytes_eq [] (λ i j d before within. absurd (omega (arith, within)))
 
 -- where a text was put, when it was taken
 pub added_at : {E : Type 0} (old new : List (List ℕ)) (text : List ℕ) (r : Result ℕ E) → OnOk r (new ≡ old ++ text ∷ []) → IfOk r (λ id. id ≡ length old) → IfOk r (λ id. slice_get new id ≡ Some text)

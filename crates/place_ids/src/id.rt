@@ -1,7 +1,7 @@
 //! What every id can do.
 ghost use Rattle.std.specs.Prelude.{◌≡◌, ℕ};
 
-/// A name for a number, that no id of another kind can stand in for.
+/// An id: it stands for a number, and ids of different kinds do not mix.
 pub trait Id: Copy {
     // The number that an id stands for.
     ghost value: { Self → ℕ };

@@ -5,30 +5,38 @@ use std::test::Fail;
 #[test]
 fn names_stand_once(rt: HostRuntime) -> Result<(), Fail> {
     let mut names = Names::new(rt.alloc());
-    assert_eq!(rt; names.intern("self")?, NameId::new(0));
-    assert_eq!(rt; names.intern("")?, NameId::new(1));
-    assert_eq!(rt; names.intern("self")?, NameId::new(0));
-    assert_eq!(rt; names.find(""), Some(NameId::new(1)));
-    assert_eq!(rt; names.find("other"), None);
-    assert_eq!(rt; names.text(NameId::new(0)), Some("self"));
-    assert_eq!(rt; names.text(NameId::new(2)), None);
+    let ids = [
+        names.intern("self")?.number(),
+        names.intern("")?.number(),
+        names.intern("self")?.number(),
+    ];
     let same = names.copy()?;
-    assert_eq!(rt; names.intern("other")?, NameId::new(2));
-    assert_eq!(rt; same.find("other"), None);
-    assert_eq!(rt; same.text(NameId::new(1)), Some(""));
+    let next = names.intern("other")?.number();
+    assert_eq!(rt; (ids, next), ([0, 1, 0], 2));
+    let found = [names.find(""), names.find("other"), same.find("other")];
+    assert_eq!(rt; found, [Some(NameId::new(1)), Some(NameId::new(2)), None]);
+    let texts = [
+        names.text(NameId::new(0)),
+        same.text(NameId::new(1)),
+        same.text(NameId::new(2)),
+    ];
+    assert_eq!(rt; texts, [Some("self"), Some(""), None]);
     Ok(())
 }
 
 #[test]
 fn rows_stand_under_their_ids(rt: HostRuntime) -> Result<(), Fail> {
     let mut table: Table<FunId, u8> = Table::new(rt.alloc());
-    assert_eq!(rt; table.len(), 0);
-    assert_eq!(rt; table.push(7)?, FunId::new(0));
-    assert_eq!(rt; table.push(5)?, FunId::new(1));
-    assert_eq!(rt; table.len(), 2);
-    assert_eq!(rt; table.get(FunId::new(0)).copied(), Some(7));
-    assert_eq!(rt; table.get(FunId::new(1)).copied(), Some(5));
-    assert_eq!(rt; table.get(FunId::new(2)).copied(), None);
+    let ids = [table.push(7)?.number(), table.push(5)?.number()];
+    let rows = [
+        table.get(FunId::new(0)).copied(),
+        table.get(FunId::new(1)).copied(),
+        table.get(FunId::new(2)).copied(),
+    ];
+    assert_eq!(rt;
+        (ids, table.len(), rows),
+        ([0, 1], 2, [Some(7), Some(5), None])
+    );
     Ok(())
 }
 
@@ -36,40 +44,32 @@ fn rows_stand_under_their_ids(rt: HostRuntime) -> Result<(), Fail> {
 fn texts_and_sequences_grow(rt: HostRuntime) -> Result<(), Fail> {
     let mut text = Text::new(rt.alloc());
     text.push(b"def")?;
-    text.push(b"")?;
     text.push(b" f")?;
     assert_eq!(rt; text.bytes(), b"def f".as_slice());
     let mut sequence = Sequence::new(rt.alloc());
-    assert_eq!(rt; sequence.len(), 0);
-    sequence.push(LineNo::new(4))?;
-    sequence.push(LineNo::new(2))?;
-    assert_eq!(rt; sequence.len(), 2);
-    assert_eq!(rt;
-        sequence.items(),
-        [LineNo::new(4), LineNo::new(2)].as_slice()
-    );
+    sequence.push(4)?;
+    sequence.push(2)?;
+    assert_eq!(rt; (sequence.items(), sequence.len()), ([4, 2].as_slice(), 2));
     Ok(())
 }
 
-fn numbered<I: Id>() -> [u32; 2] {
-    [I::new(3).number(), I::new(u32::MAX).number()]
+fn kept<I: Id>() -> u32 {
+    I::new(3).number()
 }
 
 #[test]
 fn ids_keep_their_numbers(rt: HostRuntime) {
-    let kinds = [
-        numbered::<NameId>(),
-        numbered::<FunId>(),
-        numbered::<ClassId>(),
-        numbered::<SiteId>(),
-        numbered::<VarId>(),
-        numbered::<ShapeId>(),
-        numbered::<PointId>(),
-        numbered::<ContextId>(),
-        numbered::<LineNo>(),
+    let tree = [
+        kept::<NameId>(),
+        kept::<FunId>(),
+        kept::<ClassId>(),
+        kept::<SiteId>(),
     ];
-    for numbers in kinds {
-        assert_eq!(rt; numbers, [3, u32::MAX]);
-    }
-    assert!(rt; LineNo::new(2) < LineNo::new(10));
+    let graph = [
+        kept::<VarId>(),
+        kept::<ShapeId>(),
+        kept::<PointId>(),
+        kept::<ContextId>(),
+    ];
+    assert_eq!(rt; (tree, graph, kept::<LineNo>()), ([3; 4], [3; 4], 3));
 }

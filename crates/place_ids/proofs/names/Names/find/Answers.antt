@@ -1,4 +1,4 @@
-use Rattle.std.proofs.Common.{◌≡◌, Option, None, Some, ap, ◌∙◌, sym, subst, slice_get}
+use Rattle.std.proofs.Common.{None, Some, ap, ◌∙◌}
 use Rattle.std.specs.String.{string_bytes}
 use Rattle.place_ids.proofs.NamesLemmas.{found_place, found_at}
 use Rattle.place_ids.proofs.names.Names.find.Goals as goal

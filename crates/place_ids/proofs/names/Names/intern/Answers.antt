@@ -1,6 +1,6 @@
 use Rattle.std.proofs.Common.{sym, ◌∙◌, true≢false}
 use Rattle.std.proofs.lemmas.Result.{IfOk-weaker}
-use Rattle.place_ids.specs.Names.{has_name, number_in}
+use Rattle.place_ids.specs.Names.{number_in}
 use Rattle.place_ids.proofs.NamesLemmas.{has_name-at, has_name-unfound, text-at-number_in, number_in-absent, with_name-there, with_name-new, added_at}
 use Rattle.place_ids.proofs.names.Names.intern.Goals as goal
 
