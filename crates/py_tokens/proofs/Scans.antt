@@ -1,10 +1,11 @@
 -- What a scan has read so far, and what is left, make the whole.
-use Rattle.std.proofs.Common.{◌≡◌, ℕ, ◌<◌, List, [], ◌∷◌, ◌++◌, length, Some, None, Result, Err, refl, sym, ap, ◌∙◌, subst, arith, append_assoc, length-append}
+use Rattle.std.proofs.Common.{◌+◌, ◌≤◌, Bool, true, false, cond, ◌≡◌, ℕ, ◌<◌, List, [], ◌∷◌, ◌++◌, length, Some, None, Result, Err, refl, sym, ap, ◌∙◌, subst, arith, append_assoc, length-append}
 use Rattle.py_tokens.specs.declared.token.Token.{Token}
+use Rattle.py_tokens.specs.declared.token.TokenKind.TheVariants as kind
 use Rattle.py_tokens.specs.declared.fault.TokenFault.{TokenFault}
 use Rattle.py_tokens.specs.TokenList.{TokenList}
 use Rattle.py_tokens.specs.declared.scanner.Scanner.{Scanner}
-use Rattle.py_tokens.specs.Reads.{Scan, start, Move, gives, Step, a_space, a_blank_line, a_newline, an_assign, a_name, a_keyword, an_integer, a_text, last_tokens, Reads, reads_end, reads_step}
+use Rattle.py_tokens.specs.Reads.{Scan, start, Move, gives, Step, a_space, a_blank_line, a_newline, an_assign, a_name, a_keyword, an_integer, a_text, token_of, last_tokens, Reads, reads_end, reads_step}
 use Rattle.py_tokens.specs.Moves.{move_of}
 use Rattle.py_tokens.specs.Scanners.{scan_of, Takes}
 use Rattle.py_tokens.proofs.Steps.{step_is, step_moves, reads_after, stuck}
@@ -82,3 +83,25 @@ pub reads_made : {text : List ℕ} {made : TokenList} {tokens : List Token} {new
     made ≡ record { tokens = tokens; names = new.names } → new ≡ old → Reads start text tokens old.names → Reads start text made.tokens made.names
 reads_made {text} {made} {tokens} {new} {old} is same h =
     subst (λ m. Reads start text m.tokens m.names) (sym is) (subst (λ (s : Scan). Reads start text tokens s.names) (sym same) h)
+
+-- ---- a text has few tokens
+
+one_token : (scan : Scan) (text : List ℕ) (move : Move) → Step scan text move → length move.tokens ≤ 1
+one_token scan text move (a_space whole inside is) = omega (arith, ap (λ m. length m.tokens) is)
+one_token scan text move (a_blank_line whole begins is) = omega (arith, ap (λ m. length m.tokens) is)
+one_token scan text move (a_newline whole inside is) = omega (arith, ap (λ m. length m.tokens) is)
+one_token scan text move (an_assign whole single is) = omega (arith, ap (λ m. length m.tokens) is)
+one_token scan text move (a_name whole spelled free is) = omega (arith, ap (λ m. length m.tokens) is)
+one_token scan text move (a_keyword whole spelled stands is) = omega (arith, ap (λ m. length m.tokens) is)
+one_token scan text move (an_integer whole spelled is) = omega (arith, ap (λ m. length m.tokens) is)
+one_token scan text move (a_text body whole each single is) = omega (arith, ap (λ m. length m.tokens) is)
+
+last_few : (scan : Scan) (begins : Bool) → scan.begins ≡ begins → length (last_tokens scan) ≤ 2
+last_few scan true is = omega (arith, ap (λ b. length (cond b [] (token_of kind.Newline 0 scan ∷ []) ++ token_of kind.End 0 scan ∷ [])) is)
+last_few scan false is = omega (arith, ap (λ b. length (cond b [] (token_of kind.Newline 0 scan ∷ []) ++ token_of kind.End 0 scan ∷ [])) is)
+
+-- a token for each byte at most, and two at the end
+pub reads_few : {scan : Scan} {text : List ℕ} {tokens : List Token} {names : List (List ℕ)} → Reads scan text tokens names → length tokens ≤ length text + 2
+reads_few {scan} (reads_end empty is same) = omega (arith, ap length is, last_few scan scan.begins refl)
+reads_few {scan} {text} (reads_step {more = more} {move = move} first rest is) =
+    omega (arith, reads_few rest, one_token scan text move first, step_shorter scan text move first, ap length is, length-append move.tokens more)

@@ -4,7 +4,8 @@ use Rattle.std.proofs.lemmas.Bool.Decides.{nat_tests}
 use Rattle.py_tokens.specs.declared.fault.TokenFault.TheVariants.{Later}
 use Rattle.std.proofs.lemmas.Result.{err_from_is_err_and}
 use Rattle.py_tokens.specs.Scanners.{scan_of}
-use Rattle.py_tokens.proofs.Scans.{continues_new, continues_takes, continues_end, continues_none, takes_shorter, same_err, none_left, reads_made}
+use Rattle.py_tokens.proofs.Scans.{continues_new, continues_takes, continues_end, continues_none, takes_shorter, same_err, none_left, reads_made, reads_few}
+use Rattle.py_tokens.proofs.Steps.{one_reading}
 use Rattle.py_tokens.proofs.scan.tokens.Goals as goal
 
 pub loop-scanner-init : goal.loop-scanner-init
@@ -34,3 +35,9 @@ returns-clause-read c =
     let ends = c.in_ok-end.ensures in
     reads_made c.new.ensures ends.stands
     (continues_end c.args.text.now (scan_of left) left.rest.now left.tokens c.end.new.self.tokens c.loop-scanner.invariant none ends.given)
+
+pub returns-clause-few : goal.returns-clause-few
+returns-clause-few c = reads_few (returns-clause-read c)
+
+pub returns-clause-only : goal.returns-clause-only
+returns-clause-only c = λ all names h. one_reading h (returns-clause-read c)
