@@ -1,9 +1,9 @@
 //! A shelf over real files.
-ghost use Rattle.std.specs.Prelude.{◌≡◌, ◌≤◌, ⊤, None, Some, IfOk, IsErrOf, OnOk};
+ghost use Rattle.std.specs.Prelude.{◌≡◌, ◌≤◌, ⊤, None, Some, IfOk, IfSome, IsErrOf, OnOk};
 ghost use Rattle.outside_io.specs.Counts.{next_count};
 ghost use Rattle.outside_io.specs.HostShelfState.{HostShelfState};
 ghost use Rattle.outside_io.specs.Outside.{Rose};
-ghost use Rattle.outside_io.specs.Reading.{IsWithin};
+ghost use Rattle.outside_io.specs.Reading.{IsReadOf, IsWithin};
 
 use crate::reading::read_within;
 use crate::shelf::{Fetched, Shelf, ShelfFault};
@@ -49,7 +49,8 @@ fn read_file<R: Files>(
     name: &str,
     limit: usize,
 ) -> Result<Fetched, ShelfFault>
-    ensures { IfOk result (IsWithin limit) }
+    ensures within { IfOk result (IsWithin limit) }
+    ensures read { IfOk result (λ fetched. (file : R.File) × IfSome (R.File.remaining file) (λ text. IsReadOf text limit fetched)) }
 {
     match fs::open(rt, name) {
         Ok(mut file) => read_within(alloc, &mut file, limit),
@@ -74,6 +75,9 @@ impl<'a, R: Files> Shelf for HostShelf<'a, R> {
         // A failure is counted once, and what is given whole is within the limit.
         ensures lost { IsErrOf result ShelfFault.Failed → self.new ≡ record { faults = next_count self.old.faults; last = Some name.now } }
         ensures within { IfOk result (IsWithin limit) }
+
+        // What is given was read from a file that was opened.
+        ensures read { IfOk result (λ fetched. (file : R.File) × IfSome (R.File.remaining file) (λ text. IsReadOf text limit fetched)) }
     {
         let Ok(own) = String::from_str(alloc, name) else {
             return Err(ShelfFault::Memory);
@@ -94,7 +98,11 @@ mod tests {
 
     const PATH: &str = "outside_io_host_shelf_test.txt";
 
-    fn length_at<R: Files>(shelf: &mut HostShelf<'_, R>, alloc: Global, limit: usize) -> Option<usize> {
+    fn length_at<R: Files>(
+        shelf: &mut HostShelf<'_, R>,
+        alloc: Global,
+        limit: usize,
+    ) -> Option<usize> {
         match shelf.fetch(alloc, PATH, limit) {
             Ok(Fetched::Whole(text)) => Some(text.len()),
             _ => None,

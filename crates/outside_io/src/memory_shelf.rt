@@ -123,7 +123,15 @@ mod tests {
         shelf.add("a.py", b"old text".as_slice())?;
         shelf.add("b.py", b"".as_slice())?;
         shelf.add("a.py", b"x=1".as_slice())?;
-        let fetches = [("a.py", 3), ("a.py", 2), ("a.py", 4), ("b.py", 0), ("c.py", 9), ("a.py", 3), ("a.py", 3)];
+        let fetches = [
+            ("a.py", 3),
+            ("a.py", 2),
+            ("a.py", 4),
+            ("b.py", 0),
+            ("c.py", 9),
+            ("a.py", 3),
+            ("a.py", 3),
+        ];
         let gives = ["x=1", "too long", "x=1", "", "failed", "failed", "x=1"];
         for ((name, limit), expected) in fetches.iter().zip(gives) {
             match shelf.fetch(rt.alloc(), name, *limit) {
