@@ -50,7 +50,8 @@ fn read_file<R: Files>(
     limit: usize,
 ) -> Result<Fetched, ShelfFault>
     ensures within { IfOk result (IsWithin limit) }
-    ensures read { IfOk result (λ fetched. (file : R.File) × IfSome (R.File.remaining file) (λ text. IsReadOf text limit fetched)) }
+    ensures read { IfOk result (λ fetched. (file : R.File)
+        × IfSome (R.File.remaining file) (λ text. IsReadOf text limit fetched)) }
 {
     match fs::open(rt, name) {
         Ok(mut file) => read_within(alloc, &mut file, limit),
@@ -67,17 +68,21 @@ impl<'a, R: Files> Shelf for HostShelf<'a, R> {
 
     fn fetch(&mut self, alloc: Global, name: &str, limit: usize) -> Result<Fetched, ShelfFault>
         ensures given { IfOk result (λ _. ⊤) }
-        ensures failed { IsErrOf result ShelfFault.Failed → Rose self.old.faults self.new.faults × (self.new.last ≡ Some name.now) }
+        ensures failed { IsErrOf result ShelfFault.Failed
+            → Rose self.old.faults self.new.faults × (self.new.last ≡ Some name.now) }
         ensures quiet { OnOk result ((self.new.faults ≡ self.old.faults) × (self.new.last ≡ self.old.last)) }
-        ensures quiet_memory { IsErrOf result ShelfFault.Memory → (self.new.faults ≡ self.old.faults) × (self.new.last ≡ self.old.last) }
+        ensures quiet_memory { IsErrOf result ShelfFault.Memory
+            → (self.new.faults ≡ self.old.faults) × (self.new.last ≡ self.old.last) }
         ensures counted { self.old.faults ≤ self.new.faults }
 
         // A failure is counted once, and what is given whole is within the limit.
-        ensures lost { IsErrOf result ShelfFault.Failed → self.new ≡ record { faults = next_count self.old.faults; last = Some name.now } }
+        ensures lost { IsErrOf result ShelfFault.Failed
+            → self.new ≡ record { faults = next_count self.old.faults; last = Some name.now } }
         ensures within { IfOk result (IsWithin limit) }
 
         // What is given was read from a file that was opened.
-        ensures read { IfOk result (λ fetched. (file : R.File) × IfSome (R.File.remaining file) (λ text. IsReadOf text limit fetched)) }
+        ensures read { IfOk result (λ fetched. (file : R.File)
+            × IfSome (R.File.remaining file) (λ text. IsReadOf text limit fetched)) }
     {
         let Ok(own) = String::from_str(alloc, name) else {
             return Err(ShelfFault::Memory);
