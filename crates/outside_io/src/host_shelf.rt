@@ -1,9 +1,9 @@
 //! A shelf over real files.
-ghost use Rattle.std.specs.Prelude.{◌≡◌, ◌≤◌, ⊤, None, Some, IfOk, IsErrOf, OnOk};
+ghost use Rattle.std.specs.Prelude.{◌≡◌, ◌≤◌, ⊤, None, Some, IfOk, IfSome, IsErrOf, OnOk};
 ghost use Rattle.outside_io.specs.Counts.{next_count};
 ghost use Rattle.outside_io.specs.HostShelfState.{HostShelfState};
 ghost use Rattle.outside_io.specs.Outside.{Rose};
-ghost use Rattle.outside_io.specs.Reading.{IsWithin};
+ghost use Rattle.outside_io.specs.Reading.{IsReadOf, IsWithin};
 
 use crate::reading::read_within;
 use crate::shelf::{Fetched, Shelf, ShelfFault};
@@ -49,7 +49,9 @@ fn read_file<R: Files>(
     name: &str,
     limit: usize,
 ) -> Result<Fetched, ShelfFault>
-    ensures { IfOk result (IsWithin limit) }
+    ensures within { IfOk result (IsWithin limit) }
+    ensures read { IfOk result (λ fetched. (file : R.File)
+        × IfSome (R.File.remaining file) (λ text. IsReadOf text limit fetched)) }
 {
     match fs::open(rt, name) {
         Ok(mut file) => read_within(alloc, &mut file, limit),
@@ -65,15 +67,23 @@ impl<'a, R: Files> Shelf for HostShelf<'a, R> {
     ghost last = { λ s. s.last };
 
     fn fetch(&mut self, alloc: Global, name: &str, limit: usize) -> Result<Fetched, ShelfFault>
+        // It tells nothing of what it holds, so nothing is said here of what is given.
         ensures given { IfOk result (λ _. ⊤) }
-        ensures failed { IsErrOf result ShelfFault.Failed → Rose self.old.faults self.new.faults × (self.new.last ≡ Some name.now) }
+        ensures failed { IsErrOf result ShelfFault.Failed
+            → Rose self.old.faults self.new.faults × (self.new.last ≡ Some name.now) }
         ensures quiet { OnOk result ((self.new.faults ≡ self.old.faults) × (self.new.last ≡ self.old.last)) }
-        ensures quiet_memory { IsErrOf result ShelfFault.Memory → (self.new.faults ≡ self.old.faults) × (self.new.last ≡ self.old.last) }
+        ensures quiet_memory { IsErrOf result ShelfFault.Memory
+            → (self.new.faults ≡ self.old.faults) × (self.new.last ≡ self.old.last) }
         ensures counted { self.old.faults ≤ self.new.faults }
 
         // A failure is counted once, and what is given whole is within the limit.
-        ensures lost { IsErrOf result ShelfFault.Failed → self.new ≡ record { faults = next_count self.old.faults; last = Some name.now } }
+        ensures lost { IsErrOf result ShelfFault.Failed
+            → self.new ≡ record { faults = next_count self.old.faults; last = Some name.now } }
         ensures within { IfOk result (IsWithin limit) }
+
+        // What is given was read from a file that was opened.
+        ensures read { IfOk result (λ fetched. (file : R.File)
+            × IfSome (R.File.remaining file) (λ text. IsReadOf text limit fetched)) }
     {
         let Ok(own) = String::from_str(alloc, name) else {
             return Err(ShelfFault::Memory);
@@ -94,13 +104,6 @@ mod tests {
 
     const PATH: &str = "outside_io_host_shelf_test.txt";
 
-    fn length_at<R: Files>(shelf: &mut HostShelf<'_, R>, alloc: Global, limit: usize) -> Option<usize> {
-        match shelf.fetch(alloc, PATH, limit) {
-            Ok(Fetched::Whole(text)) => Some(text.len()),
-            _ => None,
-        }
-    }
-
     #[test]
     fn fetches_a_file_within_the_limit(rt: HostRuntime) -> Result<(), Fail> {
         let mut shelf = HostShelf::new(&rt);
@@ -109,15 +112,18 @@ mod tests {
         assert_eq!(rt; shelf.faults, 1);
         assert!(rt; matches!(&shelf.last, Some(name) if name.as_str() == PATH));
 
-        let text = vec![in rt.alloc(); b'a'; 5000]?;
+        let mut text = vec![in rt.alloc(); b'a'; 5000]?;
+        text.extend_from_slice(b"z".as_slice())?;
         fs::write(&rt, PATH, text.as_slice())?;
-        let at = length_at(&mut shelf, rt.alloc(), 5000);
-        let above = length_at(&mut shelf, rt.alloc(), usize::MAX);
-        let below = shelf.fetch(rt.alloc(), PATH, 4999);
+        let below = shelf.fetch(rt.alloc(), PATH, 5000);
+        let at = shelf.fetch(rt.alloc(), PATH, 5001);
+        let above = shelf.fetch(rt.alloc(), PATH, usize::MAX);
         fs::remove_file(&rt, PATH)?;
-        assert_eq!(rt; at, Some(5000));
-        assert_eq!(rt; above, Some(5000));
         assert!(rt; matches!(&below, Ok(Fetched::TooLong)));
+        assert!(rt; matches!(&at, Ok(Fetched::Whole(read)) if read.as_slice() == text.as_slice()));
+        assert!(rt;
+            matches!(&above, Ok(Fetched::Whole(read)) if read.as_slice() == text.as_slice())
+        );
         assert_eq!(rt; shelf.faults, 1);
         Ok(())
     }

@@ -2,13 +2,14 @@
 ghost use Rattle.std.specs.Prelude.{◌≡◌, ◌<◌, ◌≤◌, None, IfOk, OnErr, OnOk, length, take};
 ghost use Rattle.std.specs.Io.KnownBytes.{Appends};
 ghost use Rattle.outside_io.specs.Counts.{next_count};
+ghost use Rattle.outside_io.specs.HostSinkState.{HostSinkState};
 ghost use Rattle.outside_io.specs.Outside.{Rose, Takes};
 
 use crate::sink::{Sink, SinkFailed};
 use std::io::Write;
 use std::marker::Model;
 
-/// Writes to a stream. It doesn't tell what the stream took. A contract sees it as the number of puts that failed.
+/// Writes to a stream. As a sink it doesn't tell what the stream took.
 #[derive(Drop)]
 pub struct HostSink<W: Write + Drop> {
     writer: W,
@@ -16,17 +17,17 @@ pub struct HostSink<W: Write + Drop> {
 }
 
 impl<W: Write + Drop> Model for HostSink<W> {
-    ghost use Rattle.std.specs.Prelude.{ℕ};
+    ghost use Rattle.outside_io.specs.HostSinkState.{HostSinkState};
 
-    ghost Value = { ℕ };
+    ghost Value = { HostSinkState W };
 
-    ghost view = { λ s. s.faults };
+    ghost view = { λ s. record { writer = s.writer; faults = s.faults } };
 }
 
 impl<W: Write + Drop> HostSink<W> {
     /// A sink over this stream.
     pub fn new(writer: W) -> HostSink<W>
-        ensures { result ≡ 0 }
+        ensures { result ≡ record { writer = writer; faults = 0 } }
     {
         HostSink { writer, faults: 0 }
     }
@@ -36,7 +37,8 @@ impl<W: Write + Drop> HostSink<W> {
 fn write_once<W: Write>(writer: &mut W, piece: &[u8]) -> Result<usize, SinkFailed>
     ensures within { IfOk result (λ count. count ≤ length piece.now) }
     ensures some { IfOk result (λ count. 0 < length piece.now → 0 < count) }
-    ensures written { IfOk result (λ count. Appends (W.contents writer.old) (W.contents writer.new) (take count piece.now)) }
+    ensures written { IfOk result (λ count.
+        Appends (W.contents writer.old) (W.contents writer.new) (take count piece.now)) }
 {
     let Ok(count) = writer.write(piece) else {
         return Err(SinkFailed);
@@ -53,17 +55,19 @@ fn write_once<W: Write>(writer: &mut W, piece: &[u8]) -> Result<usize, SinkFaile
 impl<W: Write + Drop> Sink for HostSink<W> {
     ghost taken = { λ _. None };
 
-    ghost faults = { λ s. s };
+    ghost faults = { λ s. s.faults };
 
     fn put(&mut self, piece: &[u8]) -> Result<usize, SinkFailed>
         ensures within { IfOk result (λ count. count ≤ length piece.now) }
         ensures some { IfOk result (λ count. 0 < length piece.now → 0 < count) }
-        ensures quiet { OnOk result (self.new ≡ self.old) }
-        ensures failed { OnErr result (Rose self.old self.new) }
-        ensures counted { self.old ≤ self.new }
+        ensures quiet { OnOk result (self.new.faults ≡ self.old.faults) }
+        ensures failed { OnErr result (Rose self.old.faults self.new.faults) }
+        ensures counted { self.old.faults ≤ self.new.faults }
 
-        // A failure is counted once.
-        ensures lost { OnErr result (self.new ≡ next_count self.old) }
+        // A failure is counted once, and what a put takes was written.
+        ensures lost { OnErr result (self.new.faults ≡ next_count self.old.faults) }
+        ensures written { IfOk result (λ count.
+            Appends (W.contents self.old.writer) (W.contents self.new.writer) (take count piece.now)) }
     {
         let count = write_once(&mut self.writer, piece);
         if count.is_err() {

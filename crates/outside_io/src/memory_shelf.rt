@@ -41,7 +41,8 @@ impl Model for MemoryShelf {
 impl MemoryShelf {
     /// An empty shelf; the fetches in `fails` are numbered from 1.
     pub fn new(alloc: Global, fails: &[u32]) -> Result<MemoryShelf, AllocError>
-        ensures { IfOk result (λ shelf. shelf ≡ record { files = []; failing = fails.now; fetches = 0; faults = 0; last = None }) }
+        ensures { IfOk result (λ shelf. shelf
+            ≡ record { files = []; failing = fails.now; fetches = 0; faults = 0; last = None }) }
     {
         let fails = Vec::from_slice(alloc, fails)?;
         Ok(MemoryShelf {
@@ -57,7 +58,8 @@ impl MemoryShelf {
     /// Puts the text under the name, in place of one that stood there.
     pub fn add(&mut self, name: &str, text: &[u8]) -> Result<(), AllocError>
         ensures added { OnOk result (text_of self.new.files name.now ≡ Some text.now) }
-        ensures others { OnOk result ((other : List ℕ) → other ≢ name.now → text_of self.new.files other ≡ text_of self.old.files other) }
+        ensures others { OnOk result ((other : List ℕ) → other ≢ name.now
+            → text_of self.new.files other ≡ text_of self.old.files other) }
         ensures rest { OnOk result (self.new ≡ record self.old { files = self.new.files }) }
         ensures err { OnErr result (self.new ≡ self.old) }
     {
@@ -69,7 +71,8 @@ impl MemoryShelf {
 }
 
 fn text_under<'a>(files: &'a BTreeMap<String, Vec<u8>>, name: &str) -> Option<&'a Vec<u8>>
-    ensures { MatchOption result (text_of (shown files.now.entries) name.now ≡ None) (λ text. text_of (shown files.now.entries) name.now ≡ Some text.now.items) }
+    ensures { MatchOption result (text_of (shown files.now.entries) name.now ≡ None)
+        (λ text. text_of (shown files.now.entries) name.now ≡ Some text.now.items) }
 {
     files.get(name)
 }
@@ -83,9 +86,11 @@ impl Shelf for MemoryShelf {
 
     fn fetch(&mut self, alloc: Global, name: &str, limit: usize) -> Result<Fetched, ShelfFault>
         ensures given { IfOk result (λ fetched. Gives (text_of self.old.files) name.now limit fetched) }
-        ensures failed { IsErrOf result ShelfFault.Failed → Rose self.old.faults self.new.faults × (self.new.last ≡ Some name.now) }
+        ensures failed { IsErrOf result ShelfFault.Failed
+            → Rose self.old.faults self.new.faults × (self.new.last ≡ Some name.now) }
         ensures quiet { OnOk result ((self.new.faults ≡ self.old.faults) × (self.new.last ≡ self.old.last)) }
-        ensures quiet_memory { IsErrOf result ShelfFault.Memory → (self.new.faults ≡ self.old.faults) × (self.new.last ≡ self.old.last) }
+        ensures quiet_memory { IsErrOf result ShelfFault.Memory
+            → (self.new.faults ≡ self.old.faults) × (self.new.last ≡ self.old.last) }
         ensures kept { Some (text_of self.new.files) ≡ Some (text_of self.old.files) }
         ensures counted { self.old.faults ≤ self.new.faults }
 
@@ -93,9 +98,14 @@ impl Shelf for MemoryShelf {
         ensures succeeds { OnOk result (¬ FetchFails self.old name.now) }
         ensures fails { IsErrOf result ShelfFault.Failed → FetchFails self.old name.now }
         ensures fetched { OnOk result (self.new ≡ record self.old { fetches = next_count self.old.fetches }) }
-        ensures memory { IsErrOf result ShelfFault.Memory → self.new ≡ record self.old { fetches = next_count self.old.fetches } }
-        ensures lost { IsErrOf result ShelfFault.Failed → self.new
-            ≡ record self.old { fetches = next_count self.old.fetches; faults = next_count self.old.faults; last = Some name.now } }
+        ensures memory { IsErrOf result ShelfFault.Memory
+            → self.new ≡ record self.old { fetches = next_count self.old.fetches } }
+        ensures lost { IsErrOf result ShelfFault.Failed
+            → self.new ≡ record self.old {
+              fetches = next_count self.old.fetches;
+              faults = next_count self.old.faults;
+              last = Some name.now;
+            } }
     {
         self.fetches = self.fetches.saturating_add(1);
         let Ok(own) = String::from_str(alloc, name) else {
@@ -123,7 +133,15 @@ mod tests {
         shelf.add("a.py", b"old text".as_slice())?;
         shelf.add("b.py", b"".as_slice())?;
         shelf.add("a.py", b"x=1".as_slice())?;
-        let fetches = [("a.py", 3), ("a.py", 2), ("a.py", 4), ("b.py", 0), ("c.py", 9), ("a.py", 3), ("a.py", 3)];
+        let fetches = [
+            ("a.py", 3),
+            ("a.py", 2),
+            ("a.py", 4),
+            ("b.py", 0),
+            ("c.py", 9),
+            ("a.py", 3),
+            ("a.py", 3),
+        ];
         let gives = ["x=1", "too long", "x=1", "", "failed", "failed", "x=1"];
         for ((name, limit), expected) in fetches.iter().zip(gives) {
             match shelf.fetch(rt.alloc(), name, *limit) {

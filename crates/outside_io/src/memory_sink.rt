@@ -26,7 +26,14 @@ impl Model for MemorySink {
 
     ghost Value = { SinkState };
 
-    ghost view = { λ s. record { bytes = s.bytes.items; room = s.room; piece = s.piece; failing = s.fails.items; puts = s.puts; faults = s.faults } };
+    ghost view = { λ s. record {
+      bytes = s.bytes.items;
+      room = s.room;
+      piece = s.piece;
+      failing = s.fails.items;
+      puts = s.puts;
+      faults = s.faults;
+    } };
 
     ghost invariant = { λ s. (1 ≤ s.piece) × (vec_len s.bytes ≤ s.room) × (s.room ≤ vec_capacity s.bytes) };
 }
@@ -40,7 +47,8 @@ impl MemorySink {
         fails: &[u32],
     ) -> Result<MemorySink, AllocError>
         requires { 1 ≤ piece }
-        ensures { IfOk result (λ sink. sink ≡ record { bytes = []; room = room; piece = piece; failing = fails.now; puts = 0; faults = 0 }) }
+        ensures { IfOk result (λ sink. sink
+            ≡ record { bytes = []; room = room; piece = piece; failing = fails.now; puts = 0; faults = 0 }) }
     {
         let bytes = Vec::with_capacity(alloc, room)?;
         let fails = Vec::from_slice(alloc, fails)?;
@@ -89,8 +97,10 @@ impl Sink for MemorySink {
         // Which puts fail, how much the others take, and that each is counted.
         ensures fails { IsErr result ↔ PutFails self.old piece.now }
         ensures count { IfOk result (λ count. count ≡ put_count self.old piece.now) }
-        ensures taken { IfOk result (λ count. self.new
-            ≡ record self.old { bytes = self.old.bytes ++ take count piece.now; puts = next_count self.old.puts }) }
+        ensures taken { IfOk result (λ count. self.new ≡ record self.old {
+          bytes = self.old.bytes ++ take count piece.now;
+          puts = next_count self.old.puts;
+        }) }
         ensures lost { OnErr result (self.new
             ≡ record self.old { puts = next_count self.old.puts; faults = next_count self.old.faults }) }
     {

@@ -53,7 +53,10 @@ mod tests {
     #[test]
     fn stops_where_there_is_no_room(rt: HostRuntime) -> Result<(), Fail> {
         let mut sink = MemorySink::new(rt.alloc(), 5, 3, &[])?;
-        assert_eq!(rt; put_all(&mut sink, b"abcdefg".as_slice()), Err(WriteStop { done: 5 }));
+        assert_eq!(rt;
+            put_all(&mut sink, b"abcdefg".as_slice()),
+            Err(WriteStop { done: 5 })
+        );
         assert_eq!(rt; sink.bytes(), b"abcde".as_slice());
         Ok(())
     }

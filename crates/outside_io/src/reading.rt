@@ -1,6 +1,6 @@
 //! Reads texts under a limit of their length.
-ghost use Rattle.std.specs.Prelude.{IfOk, IfSome, IsOkUnless};
-ghost use Rattle.outside_io.specs.Reading.{IsReadOf, IsWithin};
+ghost use Rattle.std.specs.Prelude.{◌+◌, IfOk, IfSome, IsOkUnless};
+ghost use Rattle.outside_io.specs.Reading.{IsReadOf, IsWithin, ReadsUpTo};
 
 use crate::shelf::{Fetched, ShelfFault};
 use std::alloc::Global;
@@ -30,6 +30,7 @@ pub(crate) fn read_within<F: Read>(
 
     // Where the reader tells its bytes, these are what was read.
     ensures read { IfOk result (λ fetched. IfSome (F.remaining file.old) (λ text. IsReadOf text limit fetched)) }
+    ensures most { ReadsUpTo (limit + 1) (F.remaining file.old) (F.remaining file.new) }
 {
     let mut bytes = Vec::new(alloc);
     let mut buffer = [0; 4096];
