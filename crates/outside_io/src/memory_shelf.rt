@@ -2,6 +2,7 @@
 ghost use Rattle.std.specs.Prelude.{◌≡◌, ◌≢◌, ℕ, ◌≤◌, ◌↔◌, [], List, Some, None, IfOk, IsErrOf, MatchOption, OnErr, OnOk};
 ghost use Rattle.outside_io.specs.Counts.{next_count};
 ghost use Rattle.outside_io.specs.Outside.{Gives, Rose};
+ghost use Rattle.outside_io.specs.Reading.{IsWithin};
 ghost use Rattle.outside_io.specs.ShelfState.{ShelfState, FetchFails, shown, text_of};
 
 use crate::listed::is_listed;
@@ -86,6 +87,7 @@ impl Shelf for MemoryShelf {
 
     fn fetch(&mut self, alloc: Global, name: &str, limit: usize) -> Result<Fetched, ShelfFault>
         ensures given { IfOk result (λ fetched. Gives (text_of self.old.files) name.now limit fetched) }
+        ensures within { IfOk result (IsWithin limit) }
         ensures failed { IsErrOf result ShelfFault.Failed
             → Rose self.old.faults self.new.faults × (self.new.last ≡ Some name.now) }
         ensures quiet { OnOk result ((self.new.faults ≡ self.old.faults) × (self.new.last ≡ self.old.last)) }

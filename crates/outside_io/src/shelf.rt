@@ -1,6 +1,7 @@
 //! Where files come from.
 ghost use Rattle.std.specs.Prelude.{◌≡◌, ℕ, ◌≤◌, List, Option, Some, IsErrOf, IfOk, IfSome, OnOk};
 ghost use Rattle.outside_io.specs.Outside.{Gives, Rose};
+ghost use Rattle.outside_io.specs.Reading.{IsWithin};
 
 use std::alloc::Global;
 
@@ -34,6 +35,7 @@ pub trait Shelf {
     /// Reads the file of this name. A name that isn't held is a failure. What is read is at most `limit` + 1 bytes.
     fn fetch(&mut self, alloc: Global, name: &str, limit: usize) -> Result<Fetched, ShelfFault>
         ensures given { IfOk result (λ fetched. IfSome (held self.old) (λ files. Gives files name.now limit fetched)) }
+        ensures within { IfOk result (IsWithin limit) }
         ensures failed { IsErrOf result ShelfFault.Failed → Rose (faults self.old) (faults self.new) × (last self.new ≡ Some name.now) }
 
         // Nothing else counts as a failure.
