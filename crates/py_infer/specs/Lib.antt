@@ -1,0 +1,10 @@
+pub mod Codes
+pub mod Words
+pub mod Taken
+pub mod Lines
+pub mod Modules
+pub mod Stubs
+pub mod Typing
+pub mod Answers
+pub mod Judging
+pub mod Outputs
