@@ -69,7 +69,10 @@ fn a_text_may_lack_its_last_line_end(rt: HostRuntime) -> Result<(), Fail> {
         token(TokenKind::End, 5, 5, 1),
     ];
     assert_eq!(rt; list(rt.alloc(), "_x1=2")?.as_slice(), expected.as_slice());
-    let blank = [("", token(TokenKind::End, 0, 0, 1)), ("\n\n", token(TokenKind::End, 2, 2, 3))];
+    let blank = [
+        ("", token(TokenKind::End, 0, 0, 1)),
+        ("\n\n", token(TokenKind::End, 2, 2, 3)),
+    ];
     for (text, end) in blank {
         assert_eq!(rt; list(rt.alloc(), text)?.as_slice(), [end].as_slice());
     }
