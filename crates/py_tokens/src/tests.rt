@@ -17,7 +17,7 @@ fn token(kind: TokenKind, start: u32, end: u32, line: u32) -> Token {
     }
 }
 
-// The tokens of a text that is short, as each one of the tests is.
+// The tokens of a text. None here is longer than the limit.
 fn read(alloc: Global, text: &str) -> Result<Tokens, TokenFault> {
     if text.len() > 262144 {
         return Err(TokenFault::Memory);
@@ -61,20 +61,34 @@ fn two_lines_have_their_tokens(rt: HostRuntime) -> Result<(), Fail> {
 
 #[test]
 fn a_text_may_lack_its_last_line_end(rt: HostRuntime) -> Result<(), Fail> {
-    let expected = [
+    let spaced = [
+        token(name(0), 0, 1, 1),
+        token(ASSIGN, 2, 3, 1),
+        token(TokenKind::Int(1), 4, 5, 1),
+        token(TokenKind::Newline, 5, 5, 1),
+        token(TokenKind::End, 5, 5, 1),
+    ];
+    assert_eq!(rt; list(rt.alloc(), "x = 1")?.as_slice(), spaced.as_slice());
+    let close = [
         token(name(0), 0, 3, 1),
         token(ASSIGN, 3, 4, 1),
         token(TokenKind::Int(2), 4, 5, 1),
         token(TokenKind::Newline, 5, 5, 1),
         token(TokenKind::End, 5, 5, 1),
     ];
-    assert_eq!(rt; list(rt.alloc(), "_x1=2")?.as_slice(), expected.as_slice());
-    let blank = [
-        ("", token(TokenKind::End, 0, 0, 1)),
-        ("\n\n", token(TokenKind::End, 2, 2, 3)),
-    ];
-    for (text, end) in blank {
-        assert_eq!(rt; list(rt.alloc(), text)?.as_slice(), [end].as_slice());
+    assert_eq!(rt; list(rt.alloc(), "_x1=2")?.as_slice(), close.as_slice());
+    Ok(())
+}
+
+#[test]
+fn blank_lines_have_no_tokens(rt: HostRuntime) -> Result<(), Fail> {
+    for (text, end, line) in [("", 0, 1), ("\n\n", 2, 3)] {
+        let expected = [token(TokenKind::End, end, end, line)];
+        assert_eq!(rt;
+            list(rt.alloc(), text)?.as_slice(),
+            expected.as_slice(),
+            "at {line}"
+        );
     }
     Ok(())
 }
@@ -82,7 +96,6 @@ fn a_text_may_lack_its_last_line_end(rt: HostRuntime) -> Result<(), Fail> {
 #[test]
 fn values_are_read(rt: HostRuntime) -> Result<(), Fail> {
     let values = [
-        ("x = 1", TokenKind::Int(1)),
         ("x = None", TokenKind::Keyword(Keyword::KwNone)),
         ("x = True", TokenKind::Keyword(Keyword::KwTrue)),
         ("x = False", TokenKind::Keyword(Keyword::KwFalse)),
