@@ -57,11 +57,11 @@ begins_split : (byte : ℕ) (xs : List ℕ) → begins_with byte xs ≡ true →
 begins_split byte [] h = absurd (cc)
 begins_split byte (x ∷ xs) h = let same : x ≡ byte = grind (arith, nat_tests) in ap (λ b. b ∷ xs) same
 
-pub stops_begins : (byte : ℕ) (xs : List ℕ) → begins_with byte xs ≡ false → Stops (λ b. b == byte) xs
+stops_begins : (byte : ℕ) (xs : List ℕ) → begins_with byte xs ≡ false → Stops (λ b. b == byte) xs
 stops_begins byte [] h = tt
 stops_begins byte (x ∷ xs) h = h
 
-pub begins_stops : (byte : ℕ) (xs : List ℕ) → Stops (λ b. b == byte) xs → begins_with byte xs ≡ false
+begins_stops : (byte : ℕ) (xs : List ℕ) → Stops (λ b. b == byte) xs → begins_with byte xs ≡ false
 begins_stops byte [] h = refl
 begins_stops byte (x ∷ xs) h = h
 

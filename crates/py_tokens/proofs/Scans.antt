@@ -15,7 +15,7 @@ pub record Continues (text : List ℕ) (scan : Scan) (rest : List ℕ) (done : L
   forth : (more : List Token) (names : List (List ℕ)) → Reads scan rest more names → Reads start text (done ++ more) names
   back : (all : List Token) (names : List (List ℕ)) → Reads start text all names → (more : List Token) × Reads scan rest more names × (all ≡ done ++ more)
 
-pub continues_start : (text : List ℕ) → Continues text start text []
+continues_start : (text : List ℕ) → Continues text start text []
 continues_start text = record { forth = λ more names h. h; back = λ all names h. (all, h, refl) }
 
 continues_step : (text : List ℕ) (scan : Scan) (rest : List ℕ) (done : List Token) (move : Move) →

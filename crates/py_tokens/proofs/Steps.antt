@@ -115,11 +115,11 @@ module _ (scan : Scan) (text : List ℕ) (move : Move) where
       ∙ ap (λ n. Some (gives (token_of (kind.Str (length body == 0)) n scan ∷ []) (past n scan) rest)) long ∙ ap Some (sym is)
 
 -- a step reads a byte at least
-pub step_some : (scan : Scan) (move : Move) → Step scan [] move → ⊥
+step_some : (scan : Scan) (move : Move) → Step scan [] move → ⊥
 step_some scan move h = let none : None ≡ Some move = step_moves scan [] move h in absurd (cc)
 
 -- a text gives one step
-pub step_one : (scan : Scan) (text : List ℕ) (m n : Move) → Step scan text m → Step scan text n → m ≡ n
+step_one : (scan : Scan) (text : List ℕ) (m n : Move) → Step scan text m → Step scan text n → m ≡ n
 step_one scan text m n h k = let both : Some m ≡ Some n = sym (step_moves scan text m h) ∙ step_moves scan text n k in cc
 
 -- what is read after a step is read after the step's tokens

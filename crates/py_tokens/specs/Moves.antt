@@ -22,6 +22,7 @@ abbrev pub begins_with : ℕ → List ℕ → Bool
 begins_with byte [] = false
 begins_with byte (b ∷ bs) = b == byte
 
+-- a lexeme of these many bytes
 abbrev pub found : Lexeme → ℕ → Option Found
 found what len = Some (record { lexeme = what; len = len })
 
@@ -37,6 +38,7 @@ abbrev pub word_lexeme : List ℕ → Option Keyword → ℕ → Option Found
 word_lexeme word (Some keyword) len = found (lexeme.Keyword keyword) len
 word_lexeme word None len = if is_keyword word then None else found lexeme.Name len
 
+-- the word that a text begins with, where it is a name or stands for a value
 abbrev pub word_of : List ℕ → Option Found
 word_of text =
     let len = prefix_len is_name_byte text in
@@ -54,10 +56,12 @@ number_of digits = if nat_lt 0 (length digits) && nat_lt (digits_value 10 digits
 abbrev pub value_of : List ℕ → Option ℕ
 value_of word = if list_all is_ascii_digit word && are_integer_digits word then number_of word else None
 
+-- an integer of this value, where there is one
 abbrev pub integer_lexeme : Option ℕ → ℕ → Option Found
 integer_lexeme None len = None
 integer_lexeme (Some value) len = found (lexeme.Int value) len
 
+-- the integer that a text begins with
 abbrev pub integer_of : List ℕ → Option Found
 integer_of text =
     let len = prefix_len is_name_byte text in
@@ -101,6 +105,7 @@ move_over scan text (lexeme.Keyword keyword) len = Some (gives (token_of (kind.K
 move_over scan text (lexeme.Int value) len = Some (gives (token_of (kind.Int value) len scan ∷ []) (past len scan) (drop len text))
 move_over scan text (lexeme.Str empty) len = Some (gives (token_of (kind.Str empty) len scan ∷ []) (past len scan) (drop len text))
 
+-- the step over what was found
 abbrev pub move_by : Scan → List ℕ → Option Found → Option Move
 move_by scan text None = None
 move_by scan text (Some f) = move_over scan text f.lexeme f.len

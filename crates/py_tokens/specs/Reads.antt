@@ -21,6 +21,7 @@ pub record Scan : Type 0 where
   pub begins : Bool
   pub names : List (List ℕ)
 
+-- the scan at the start of a text
 abbrev pub start : Scan
 start = record { offset = 0; line = 1; begins = true; names = [] }
 
@@ -46,6 +47,7 @@ pub record Move : Type 0 where
   pub after : Scan
   pub rest : List ℕ
 
+-- the step that gives these tokens
 abbrev pub gives : List Token → Scan → List ℕ → Move
 gives tokens after rest = record { tokens = tokens; after = after; rest = rest }
 
@@ -82,8 +84,10 @@ pub data Step (scan : Scan) (text : List ℕ) (move : Move) : Type 0 where
   -- A word that is no keyword is a name. An equal name has the same number.
   a_name : {word rest : List ℕ} → text ≡ word ++ rest → IsWord word rest → is_keyword word ≡ false →
       move ≡ gives (token_of (kind.Name (number_in scan.names word)) (length word) scan ∷ []) (past (length word) (naming word scan)) rest → Step scan text move
+  -- A word that stands for a value.
   a_keyword : {word rest : List ℕ} {keyword : KeywordName} → text ≡ word ++ rest → IsWord word rest → IsValueWord word keyword →
       move ≡ gives (token_of (kind.Keyword keyword) (length word) scan ∷ []) (past (length word) scan) rest → Step scan text move
+  -- An integer is known by its value.
   an_integer : {digits rest : List ℕ} → text ≡ digits ++ rest → IsInteger digits rest →
       move ≡ gives (token_of (kind.Int (digits_value 10 digits)) (length digits) scan ∷ []) (past (length digits) scan) rest → Step scan text move
   -- A text in double quotes on one line. No quote stands directly after it.

@@ -1,6 +1,7 @@
 //! Why a text has no tokens.
 use thiserror::Error;
 
+/// Why a text has no tokens: only `Later` is a fact of the text.
 #[derive(Clone, Copy, Debug, PartialEq, Eq, Error)]
 pub enum TokenFault {
     /// The scan meets a form that isn't read yet.

@@ -11,7 +11,7 @@ use crate::token::Keyword;
 
 /// The kinds of lexemes that are read.
 #[derive(Clone, Copy)]
-pub enum Lexeme {
+pub(crate) enum Lexeme {
     Space,
     LineEnd,
     Assign,
@@ -24,11 +24,12 @@ pub enum Lexeme {
 
 /// A lexeme, and how many bytes it has.
 #[derive(Clone, Copy)]
-pub struct Found {
-    pub lexeme: Lexeme,
-    pub len: usize,
+pub(crate) struct Found {
+    pub(crate) lexeme: Lexeme,
+    pub(crate) len: usize,
 }
 
+// The keywords (language reference, "Keywords").
 const KEYWORDS: [&str; 35] = [
     "False", "None", "True", "and", "as", "assert", "async", "await", "break", "class", "continue",
     "def", "del", "elif", "else", "except", "finally", "for", "from", "global", "if", "import",
@@ -136,7 +137,7 @@ fn are_integer_digits(digits: &[u8]) -> bool
 }
 
 /// A word as text.
-pub fn ascii_text(word: &[u8]) -> &str
+pub(crate) fn ascii_text(word: &[u8]) -> &str
     requires { list_all is_name_byte word.now ≡ true }
     ensures { result.now ≡ word.now }
 {
@@ -185,8 +186,7 @@ fn text(bytes: &[u8]) -> Option<Found>
     ensures { result ≡ text_of bytes.now }
 {
     let len = run_of_text(bytes);
-    let rest = &bytes[len..];
-    match rest {
+    match &bytes[len..] {
         [b'"', after @ ..] if !begins_with(b'"', after) => Some(Found {
             lexeme: Lexeme::Str(len == 0),
             len: len + 2,
@@ -202,7 +202,7 @@ fn single(lexeme: Lexeme) -> Option<Found>
 }
 
 /// The lexeme at the front, where it is one that is read.
-pub fn first_lexeme(bytes: &[u8]) -> Option<Found>
+pub(crate) fn first_lexeme(bytes: &[u8]) -> Option<Found>
     ensures exact { result ≡ lexeme_of bytes.now }
     ensures within { IfSome result (λ f. (0 < f.len) × (f.len ≤ length bytes.now)) }
     ensures word { IfSome result (λ f. f.lexeme ≡ Lexeme.Name → list_all is_name_byte (take f.len bytes.now) ≡ true) }

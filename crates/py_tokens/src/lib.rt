@@ -7,6 +7,8 @@ mod lexeme;
 mod list;
 mod scan;
 mod scanner;
+#[cfg(test)]
+mod tests;
 mod token;
 
 pub use fault::TokenFault;

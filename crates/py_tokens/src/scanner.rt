@@ -9,13 +9,13 @@ use std::alloc::Global;
 
 /// Where a scan stands, and what it has read so far.
 #[derive(Drop)]
-pub struct Scanner<'t> {
-    pub rest: &'t [u8],
-    pub offset: u32,
-    pub line: u32,
-    pub begins: bool,
-    pub names: Names,
-    pub tokens: Sequence<Token>,
+pub(crate) struct Scanner<'t> {
+    pub(crate) rest: &'t [u8],
+    pub(crate) offset: u32,
+    pub(crate) line: u32,
+    pub(crate) begins: bool,
+    pub(crate) names: Names,
+    pub(crate) tokens: Sequence<Token>,
     ghost within: { offset + length rest.now ≤ 262144 },
     ghost lines: { line ≤ offset + 1 },
     ghost few: { length names ≤ offset },
@@ -31,7 +31,7 @@ impl<'t> Scanner<'t> {
     ghost use Rattle.py_tokens.specs.Scanners.{scan_of, Takes};
 
     /// A scanner at the start of a text.
-    pub fn new(alloc: Global, text: &'t [u8]) -> Scanner<'t>
+    pub(crate) fn new(alloc: Global, text: &'t [u8]) -> Scanner<'t>
         requires { length text.now ≤ 262144 }
         ensures starts { scan_of result ≡ start }
         ensures rest { result.rest.now ≡ text.now }
@@ -159,7 +159,7 @@ impl<'t> Scanner<'t> {
     }
 
     /// Takes the next step of the scan, where there is one.
-    pub fn step(&mut self) -> Result<(), TokenFault>
+    pub(crate) fn step(&mut self) -> Result<(), TokenFault>
         requires { 0 < length self.old.rest.now }
         ensures taken { OnOk result ((move : Move) × (move_of (scan_of self.old) self.old.rest.now ≡ Some move) × Takes self.old self.new move) }
         ensures later { IsErrOf result TokenFault.Later → move_of (scan_of self.old) self.old.rest.now ≡ None }
@@ -179,7 +179,7 @@ impl<'t> Scanner<'t> {
     }
 
     /// Gives the tokens at the end of the text.
-    pub fn end(&mut self) -> Result<(), TokenFault>
+    pub(crate) fn end(&mut self) -> Result<(), TokenFault>
         ensures given { OnOk result (self.new.tokens ≡ self.old.tokens ++ last_tokens (scan_of self.old)) }
         ensures never_later { IsErrOf result TokenFault.Later → ⊥ }
         ensures stands { scan_of self.new ≡ scan_of self.old }
