@@ -13,7 +13,7 @@ const UNREAD: &str = "m.py: cannot be read\n";
 const REFUSED: &str = "m.py: refused: out-of-profile later\n";
 
 // A call: its words, one a line; the text of m.py, where the shelf holds it; and which fetches and puts fail.
-#[derive(Clone, Copy)]
+#[derive(Clone, Copy, Debug)]
 struct Call<'a> {
     words: &'a str,
     text: Option<&'a str>,
@@ -68,9 +68,9 @@ fn compare(
         &mut out,
         &mut note,
     );
-    assert_eq!(rt; ending, status);
-    assert_eq!(rt; out.bytes(), stub.as_bytes());
-    assert_eq!(rt; note.bytes(), report.as_bytes());
+    assert_eq!(rt; ending, status, "at {call:?}");
+    assert_eq!(rt; out.bytes(), stub.as_bytes(), "at {call:?}");
+    assert_eq!(rt; note.bytes(), report.as_bytes(), "at {call:?}");
     Ok(())
 }
 
