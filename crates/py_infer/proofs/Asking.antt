@@ -1,25 +1,19 @@
 -- What the shelf's answer asks for.
-use Rattle.std.proofs.Common.{◌≡◌, ℕ, ◌<◌, List, Option, Some, None, IfOk, IfSome, IsSomeAnd, Result, Ok, Err, Vec, Global, length, sym, ap, ◌∙◌, subst, arith}
+use Rattle.std.proofs.Common.{◌≡◌, ℕ, ◌<◌, List, Option, Some, None, IfOk, IfSome, IsSomeAnd, Result, Vec, Global, length, sym, ap, ◌∙◌, subst, arith}
+use Rattle.std.proofs.lemmas.Option.{IfSome_then}
+use Rattle.std.proofs.lemmas.Result.{IfOk-weaker}
 use Rattle.outside_io.specs.Outside.{Files, Gives}
 use Rattle.outside_io.specs.declared.shelf.Fetched.TheVariants.{Whole, TooLong}
 use Rattle.py_infer.specs.declared.answer.Answer.{Answer}
 use Rattle.py_infer.specs.Answers.{unread, refused, clean}
 use Rattle.py_infer.specs.Judging.{IsStubOf}
 use Rattle.py_infer.specs.Modules.{IsModule}
-use Rattle.py_infer.specs.Outputs.{IsNotModule, HoldsOther, IsUnread, IsAsked, for_unread, for_refused, for_clean}
+use Rattle.py_infer.specs.Outputs.{IsNotModule, IsUnread, IsAsked, for_unread, for_refused, for_clean}
 use Rattle.py_infer.specs.Words.{Accepts}
 
 some_more : {X : Type 0} (o : Option X) (P Q : X → Type 0) → ((x : X) → P x → Q x) → IsSomeAnd o P → IsSomeAnd o Q
 some_more None P Q more h = h
 some_more (Some x) P Q more h = more x h
-
-if_more : {X : Type 0} (o : Option X) (P Q : X → Type 0) → ((x : X) → P x → Q x) → IfSome o P → IfSome o Q
-if_more None P Q more h = tt
-if_more (Some x) P Q more h = more x h
-
-if_ok : {E : Type 0} (P Q : Answer → Type 0) (r : Result Answer E) → ((a : Answer) → P a → Q a) → IfOk r P → IfOk r Q
-if_ok P Q (Ok a) more h = more a h
-if_ok P Q (Err e) more h = tt
 
 -- too many bytes are no plain module
 too_long : (bytes : List ℕ) → 262144 < length bytes → IsNotModule bytes
@@ -32,8 +26,7 @@ module _ (words : List (List ℕ)) (held : Option Files) (before after : ℕ) (l
   -- what holds of the bytes that are given whole holds of the file
   told : (P : List ℕ → Type 0) (given : Vec ℕ Global) (bytes : List ℕ) → bytes ≡ given.items → P bytes → IfSome held (λ files. Gives files file 262144 (Whole given)) → IfSome held (λ files. IsSomeAnd (files file) P)
   told P given bytes same p h =
-      if_more held (λ files. Gives files file 262144 (Whole given)) (λ files. IsSomeAnd (files file) P)
-      (λ files g. subst (λ f. IsSomeAnd f P) (sym g.0) (subst P same p)) h
+      IfSome_then held h (λ files g. subst (λ f. IsSomeAnd f P) (sym g.0) (subst P same p))
 
   pub asks_clean : (given : Vec ℕ Global) (bytes stub : List ℕ) (answer : Answer) → bytes ≡ given.items → IsStubOf bytes stub → IfSome held (λ files. Gives files file 262144 (Whole given)) → answer ≡ clean stub → Asked answer
   asks_clean given bytes stub answer same is h answered =
@@ -41,12 +34,12 @@ module _ (words : List (List ℕ)) (held : Option Files) (before after : ℕ) (l
 
   pub asks_refused : {E : Type 0} (given : Vec ℕ Global) (bytes : List ℕ) (r : Result Answer E) → bytes ≡ given.items → IsNotModule bytes → IfSome held (λ files. Gives files file 262144 (Whole given)) → IfOk r (λ a. a ≡ refused file) → IfOk r Asked
   asks_refused given bytes r same none h answered =
-      if_ok (λ a. a ≡ refused file) Asked r (λ a is. for_refused file accepts (told IsNotModule given bytes same none h) is) answered
+      IfOk-weaker r (λ a. a ≡ refused file) Asked (λ a is. for_refused file accepts (told IsNotModule given bytes same none h) is) answered
 
   pub asks_too_long : {E : Type 0} (r : Result Answer E) → IfSome held (λ files. Gives files file 262144 TooLong) → IfOk r (λ a. a ≡ refused file) → IfOk r Asked
   asks_too_long r h answered =
-      if_ok (λ a. a ≡ refused file) Asked r (λ a is. for_refused file accepts
-      (if_more held (λ files. Gives files file 262144 TooLong) (λ files. HoldsOther files file) (λ files g. some_more (files file) (λ text. 262144 < length text) IsNotModule too_long g) h) is) answered
+      IfOk-weaker r (λ a. a ≡ refused file) Asked (λ a is. for_refused file accepts
+      (IfSome_then held h (λ files g. some_more (files file) (λ text. 262144 < length text) IsNotModule too_long g)) is) answered
 
   pub asks_unread : {E : Type 0} (r : Result Answer E) → IsUnread before after last file → IfOk r (λ a. a ≡ unread file) → IfOk r Asked
-  asks_unread r failed answered = if_ok (λ a. a ≡ unread file) Asked r (λ a is. for_unread file accepts failed is) answered
+  asks_unread r failed answered = IfOk-weaker r (λ a. a ≡ unread file) Asked (λ a is. for_unread file accepts failed is) answered

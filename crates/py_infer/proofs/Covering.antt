@@ -1,6 +1,7 @@
 -- The values that names hold belong to the types that the stub prints.
 use Rattle.std.proofs.Common.{◌≡◌, ℕ, Bool, true, false, cond, inl, inr, List, [], ◌∷◌, Option, Some, None, IfSome, IsSomeAnd, refl, sym, ap, ◌∙◌, subst}
 use Rattle.std.specs.Str.{bytes_eq}
+use Rattle.std.proofs.lemmas.Option.{IfSome_then}
 use Rattle.outside_io.specs.Outside.{Files, Takes}
 use Rattle.py_infer.specs.declared.answer.Answer.{Answer}
 use Rattle.py_infer.specs.declared.plain_type.PlainType.{PlainType}
@@ -43,17 +44,13 @@ none_related : (n : List ℕ) → Related None (nothing_held {A = PlainType} n)
 none_related n value is = absurd (cc)
 
 -- the rows of the lines cover the values after them
-pub rows_cover : (lines : List Line) (rows : Rows) → AreRowsOf lines rows → AreCovered lines rows
+rows_cover : (lines : List Line) (rows : Rows) → AreRowsOf lines rows → AreCovered lines rows
 rows_cover lines rows are n value is =
     subst (λ t. IsSomeAnd t (Belongs value)) (sym (are.exact n)) (related_carried nothing_held nothing_held none_related lines n value is)
 
 module _ (words : List (List ℕ)) (before after : ℕ) (last : Option (List ℕ)) (answer : Answer) (out note : Seen) (ending : Ending) where
   abbrev Written : Files → Type 0
   Written files = (file : List ℕ) × (lines : List Line) × (rows : Rows) × Accepts words file × HoldsModule files file lines × Takes out.old out.new (stub_text rows) × AreCovered lines rows
-
-  if_held : (P Q : Files → Type 0) (held : Option Files) → ((files : Files) → P files → Q files) → IfSome held P → IfSome held Q
-  if_held P Q None more h = tt
-  if_held P Q (Some files) more h = more files h
 
   taken : (held : Option Files) → IsAsked words held before after last answer → IsDelivered answer out note ending → ending ≡ status.Clean → (stub : List ℕ) → answer ≡ clean stub → Takes out.old out.new stub
   taken held asked (inl (took, ends)) is stub same = subst (λ t. Takes out.old out.new t) (ap (λ (a : Answer). a.out) same) took.0
@@ -69,5 +66,5 @@ module _ (words : List (List ℕ)) (before after : ℕ) (last : Option (List ℕ
   clean_covers held (for_unread file accepts unread same) delivered is = absurd (other held status.ReadFault delivered is (ap (λ (a : Answer). a.status) same) (λ h. cc))
   clean_covers held (for_refused file accepts holds same) delivered is = absurd (other held status.Refused delivered is (ap (λ (a : Answer). a.status) same) (λ h. cc))
   clean_covers held (for_clean file lines rows accepts holds are same) delivered is =
-      if_held (λ files. HoldsModule files file lines) Written held
-      (λ files h. (file, lines, rows, accepts, h, taken held (for_clean file lines rows accepts holds are same) delivered is (stub_text rows) same, rows_cover lines rows are)) holds
+      IfSome_then held holds
+      (λ files h. (file, lines, rows, accepts, h, taken held (for_clean file lines rows accepts holds are same) delivered is (stub_text rows) same, rows_cover lines rows are))

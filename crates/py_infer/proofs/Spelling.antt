@@ -2,7 +2,6 @@
 use Rattle.std.proofs.Common.{◌≡◌, ℕ, true, false, cond, List, Option, Some, None, IsSome, slice_get, refl, sym, ap, ◌∙◌, subst}
 use Rattle.std.specs.Option.{option_and_then}
 use Rattle.std.specs.Str.{bytes_eq}
-use Rattle.std.proofs.lemmas.Bool.{false≢true}
 use Rattle.py_tokens.specs.declared.token.TokenKind.{TokenKind}
 use Rattle.py_tokens.specs.declared.token.TokenKind.TheVariants as kind
 use Rattle.py_tokens.specs.declared.token.Keyword.TheVariants.{KwFalse, KwNone, KwTrue}
@@ -22,7 +21,7 @@ module _ (names : List (List ℕ)) (rows : Rows) where
   by_name id t None is h = absurd (cc)
   by_name id t (Some n) is h = (name n, (id, refl, is), h)
 
-  pub token_spells : (k : TokenKind) (t : PlainType) → token_type names rows k ≡ Some t → Spelled k t
+  token_spells : (k : TokenKind) (t : PlainType) → token_type names rows k ≡ Some t → Spelled k t
   token_spells (kind.Name id) t h = by_name id t (slice_get names id) refl h
   token_spells (kind.Keyword KwNone) t h = (literal nothing, refl, h)
   token_spells (kind.Keyword KwTrue) t h = (literal (truth true), refl, h)
@@ -32,15 +31,6 @@ module _ (names : List (List ℕ)) (rows : Rows) where
   token_spells (kind.Op op) t h = absurd (cc)
   token_spells kind.Newline t h = absurd (cc)
   token_spells kind.End t h = absurd (cc)
-
-  -- what a token spells has the token's type
-  pub spelled_type : (k : TokenKind) (e : Expression) → Spells names k e → token_type names rows k ≡ meaning type_of (type_in rows) e
-  spelled_type k (literal nothing) h = ap (token_type names rows) h
-  spelled_type k (literal (truth true)) h = ap (token_type names rows) h
-  spelled_type k (literal (truth false)) h = ap (token_type names rows) h
-  spelled_type k (literal (number n)) h = ap (token_type names rows) h
-  spelled_type k (literal (text empty)) h = ap (token_type names rows) h
-  spelled_type k (name n) (id, is, at) = ap (token_type names rows) is ∙ ap (option_and_then (type_in rows)) at
 
   -- a line that is carried out is one that may follow
   pub carries : (new : Rows) (id : ℕ) (target : List ℕ) (value : TokenKind) (t : PlainType) → slice_get names id ≡ Some target → is_taken target ≡ false →
@@ -52,7 +42,3 @@ module _ (names : List (List ℕ)) (rows : Rows) where
         record { named = named; spelled = e.1; free = free; readable = subst IsSome (sym e.2) refl },
         record { ordered = ordered; types = λ n. set n ∙ ap (λ m. cond (bytes_eq target n) m (type_in rows n)) (sym e.2) },
       )
-
-  -- where the value has no type, no line may follow
-  pub no_line : (id : ℕ) (value : TokenKind) → token_type names rows value ≡ None → (line : Line) → IsLine names rows id value line → ⊥
-  no_line id value none line is = false≢true (subst IsSome (sym (spelled_type value line.value is.spelled) ∙ none) is.readable)

@@ -3,11 +3,11 @@ use Rattle.std.proofs.Common.{◌≡◌, ℕ, zero, suc, ◌+◌, ◌≤◌, Boo
 use Rattle.std.specs.Cmp.Lexicographic.{nat_list_eq_equiv}
 use Rattle.std.specs.Str.{bytes_eq}
 use Rattle.std.specs.List.Sorted.{IsStrictlySortedBy}
-use Rattle.std.specs.Bool.{MatchBool, IsTrue, then_some}
+use Rattle.std.specs.Bool.{IsTrue, then_some}
 use Rattle.std.specs.Option.{MatchOption}
 use Rattle.std.proofs.lemmas.Bool.{false≢true}
 use Rattle.std.proofs.lemmas.List.{length-map, drop_all}
-use Rattle.std.proofs.lemmas.Option.{slice_get_within}
+use Rattle.std.proofs.lemmas.Option.{same_Some, slice_get_within}
 use Rattle.py_tokens.specs.declared.token.Token.{Token}
 use Rattle.place_ids.specs.Names.{has_name}
 use Rattle.py_tokens.specs.declared.token.TokenKind.{TokenKind}
@@ -33,7 +33,7 @@ get_drop (y ∷ ys) (suc i) x rest h = get_drop ys i x rest h
 
 module _ (tokens : List TokenKind) (place id : ℕ) (value : TokenKind) where
   -- a line at a place stands before what follows it
-  pub line_drop : IsLineAt tokens place id value → drop place tokens ≡ kind.Name id ∷ kind.Op op.Assign ∷ value ∷ kind.Newline ∷ drop (place + 4) tokens
+  line_drop : IsLineAt tokens place id value → drop place tokens ≡ kind.Name id ∷ kind.Op op.Assign ∷ value ∷ kind.Newline ∷ drop (place + 4) tokens
   line_drop is =
       let one : place + 1 ≡ suc place = omega arith in
       let two : place + 2 ≡ suc (suc place) = omega arith in
@@ -91,9 +91,6 @@ walks_start names tokens ordered = record {
   forth = λ lines spelled plain. (lines, spelled, plain, λ n. carried_same type_of nothing_held (type_in []) lines (λ m. refl) n);
   back = λ all spelled plain. (all, spelled, plain);
 }
-
-some_same : {X : Type 0} {x y : X} → Some x ≡ Some y → x ≡ y
-some_same h = cc
 
 -- one name is bound more, where one has a type more
 agree_more : (names : List (List ℕ)) (old new : Rows) (bound : List (List ℕ)) (line : Line) → ((n : List ℕ) → has_name bound n ≡ is_some (type_in old n)) →
@@ -160,12 +157,12 @@ module _ (names : List (List ℕ)) (tokens : List TokenKind) (place : ℕ) (old 
       back = λ all spelled plain.
           let left = walks.back all spelled plain in
           let first = begins left.0 left.1 left.2 in
-          let same : first.0.target ≡ line.target = some_same (sym first.3.named ∙ is.named) in
+          let same : first.0.target ≡ line.target = same_Some _ _ (sym first.3.named ∙ is.named) in
           (first.1, first.5, subst (λ t. ArePlain (t ∷ walks.bound) first.1) same first.4);
     }
 
   -- where no line stands and not the end, the tokens are no module
-  pub walks_none : ((id : ℕ) (value : TokenKind) → IsLineAt tokens place id value → ⊥) → (drop place tokens ≡ kind.End ∷ [] → ⊥) → (all : List Line) → SpellsLines names tokens all → ArePlain [] all → ⊥
+  walks_none : ((id : ℕ) (value : TokenKind) → IsLineAt tokens place id value → ⊥) → (drop place tokens ≡ kind.End ∷ [] → ⊥) → (all : List Line) → SpellsLines names tokens all → ArePlain [] all → ⊥
   walks_none none unended all spelled plain =
       let left = walks.back all spelled plain in
       neither left.0 left.1
@@ -175,7 +172,7 @@ module _ (names : List (List ℕ)) (tokens : List TokenKind) (place : ℕ) (old 
       neither (line ∷ lines) (id, value, rest, whole, named, spelled, more) = none id value (line_found tokens place id value rest whole)
 
   -- at the end, the types are those of the module's lines
-  pub walks_end : drop place tokens ≡ kind.End ∷ [] → (all : List Line) × SpellsLines names tokens all × ArePlain [] all × AreRowsOf all old
+  walks_end : drop place tokens ≡ kind.End ∷ [] → (all : List Line) × SpellsLines names tokens all × ArePlain [] all × AreRowsOf all old
   walks_end h =
       let whole = walks.forth [] h tt in
       (whole.0, whole.1, whole.2, record { ordered = walks.ordered; exact = λ n. sym (whole.3 n) })
@@ -184,25 +181,16 @@ pub ordered_none : IsOrdered []
 unfolding IsStrictlySortedBy
 ordered_none = tt
 
--- the two answers of a test
-pub if_false : (P Q : Type 0) (b : Bool) → b ≡ false → MatchBool b P Q → Q
-if_false P Q true is h = absurd (false≢true (sym is))
-if_false P Q false is h = h
-
-pub if_true : (P Q : Type 0) (b : Bool) → b ≡ true → MatchBool b P Q → P
-if_true P Q true is h = h
-if_true P Q false is h = absurd (false≢true is)
-
 -- a line lies within the tokens
 pub line_within : (tokens : List Token) (place id : ℕ) (value : TokenKind) → IsLineAt (kinds tokens) place id value → place + 4 ≤ length tokens
 line_within tokens place id value at = omega (arith, slice_get_within (kinds tokens) (place + 3) kind.Newline at.newline, length-map tokens (λ (t : Token). t.kind))
 
 -- the last token, as the list of the tokens that are left
-pub last_drop : (tokens : List Token) (place : ℕ) → IsLastAt tokens place → drop place (kinds tokens) ≡ kind.End ∷ []
+last_drop : (tokens : List Token) (place : ℕ) → IsLastAt tokens place → drop place (kinds tokens) ≡ kind.End ∷ []
 last_drop tokens place (last, is) =
     drop_get (kinds tokens) place kind.End is ∙ ap (λ xs. kind.End ∷ xs) (drop_all (suc place) (kinds tokens) (omega (arith, length-map tokens (λ (t : Token). t.kind))))
 
-pub drop_last : (tokens : List Token) (place : ℕ) → place ≤ length (kinds tokens) → drop place (kinds tokens) ≡ kind.End ∷ [] → IsLastAt tokens place
+drop_last : (tokens : List Token) (place : ℕ) → place ≤ length (kinds tokens) → drop place (kinds tokens) ≡ kind.End ∷ [] → IsLastAt tokens place
 drop_last tokens place within h =
     (omega (arith, ap length h, length-drop place (kinds tokens), length-map tokens (λ (t : Token). t.kind)), (get_drop (kinds tokens) place kind.End [] h).0)
 

@@ -3,14 +3,18 @@ use Rattle.std.specs.Prelude.{ℕ, List, [], ◌∷◌, ◌++◌, codes}
 use Rattle.py_infer.specs.declared.answer.Answer.{Answer}
 use Rattle.py_infer.specs.declared.status.Status.TheVariants as status
 
+-- the words aren't accepted
 abbrev pub usage : Answer
 usage = record { status = status.Usage; out = []; note = codes "usage: py_infer COMMAND [OPTIONS] FILE [NAME=STUB ...]" ++ 10 ∷ [] }
 
+-- the file of this name couldn't be read
 abbrev pub unread : List ℕ → Answer
 unread file = record { status = status.ReadFault; out = []; note = file ++ (codes ": cannot be read" ++ 10 ∷ []) }
 
+-- the file of this name is no plain module
 abbrev pub refused : List ℕ → Answer
 refused file = record { status = status.Refused; out = []; note = file ++ (codes ": refused: out-of-profile later" ++ 10 ∷ []) }
 
+-- this is the stub of a plain module
 abbrev pub clean : List ℕ → Answer
 clean stub = record { status = status.Clean; out = stub; note = [] }

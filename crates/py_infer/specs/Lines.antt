@@ -18,6 +18,7 @@ pub data Expression : Type 0 where
   literal : Value → Expression
   name : List ℕ → Expression
 
+-- A line `NAME = VALUE`: the name that it assigns, and what it assigns to it.
 pub record Line : Type 0 where
   pub target : List ℕ
   pub value : Expression
@@ -50,6 +51,7 @@ abbrev pub carried : {A : Type 0} → (Value → A) → Held A → List Line →
 carried of held [] = held
 carried of held (line ∷ lines) = carried of (assigned of held line) lines
 
+-- no name stands for anything, as before the first line
 abbrev pub nothing_held : {A : Type 0} → Held A
 nothing_held n = None
 
@@ -57,6 +59,7 @@ nothing_held n = None
 abbrev pub values_after : List Line → Held Value
 values_after lines = carried (λ value. value) nothing_held lines
 
+-- the type that a stub prints for a value
 abbrev pub type_of : Value → PlainType
 type_of nothing = type.NoneType
 type_of (truth b) = type.Bool

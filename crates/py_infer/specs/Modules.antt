@@ -26,6 +26,7 @@ SpellsLines names tokens (line ∷ lines) =
     × (tokens ≡ kind.Name id ∷ kind.Op op.Assign ∷ value ∷ kind.Newline ∷ rest)
     × (slice_get names id ≡ Some line.target) × Spells names value line.value × SpellsLines names rest lines
 
+-- what the tokens are, without where they stand
 abbrev pub kinds : List Token → List TokenKind
 kinds tokens = map (λ (t : Token). t.kind) tokens
 

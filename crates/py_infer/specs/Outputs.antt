@@ -46,6 +46,7 @@ pub record Seen : Type 0 where
   pub before : ℕ
   pub after : ℕ
 
+-- a sink that had taken `old` and failed `before` times at first, and `new` and `after` times at the end
 abbrev pub seen : Option (List ℕ) → Option (List ℕ) → ℕ → ℕ → Seen
 seen old new before after = record { old = old; new = new; before = before; after = after }
 

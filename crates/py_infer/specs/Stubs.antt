@@ -26,6 +26,7 @@ rows_of entries = map (λ e. (string_bytes e.0, e.1)) entries
 abbrev pub type_in : Rows → List ℕ → Option PlainType
 type_in rows n = lookup (bytes_eq n) rows
 
+-- the names of the rows, in their order
 abbrev pub names_of : Rows → List (List ℕ)
 names_of rows = map (λ (r : Row). r.0) rows
 
@@ -45,5 +46,6 @@ type_text type.Str = codes "str"
 abbrev pub row_text : Row → List ℕ
 row_text row = row.0 ++ codes ": " ++ type_text row.1 ++ 10 ∷ []
 
+-- the stub: the lines of the rows, one after another
 abbrev pub stub_text : Rows → List ℕ
 stub_text rows = flat_map row_text rows

@@ -3,6 +3,7 @@ use Rattle.std.specs.Prelude.{ℕ, Bool, List, [], ◌∷◌, codes}
 use Rattle.std.specs.List.{list_any}
 use Rattle.std.specs.Str.{bytes_eq}
 
+-- these names
 abbrev pub taken_names : List (List ℕ)
 taken_names =
     codes "print" ∷ codes "input" ∷ codes "len" ∷ codes "ord" ∷ codes "repr" ∷ codes "chr" ∷ codes "isinstance"
@@ -19,5 +20,6 @@ taken_names =
     ∷ codes "Any" ∷ codes "Callable" ∷ codes "Dict" ∷ codes "List" ∷ codes "Optional" ∷ codes "Tuple" ∷ codes "Type"
     ∷ codes "Union" ∷ []
 
+-- whether a name is one of them
 abbrev pub is_taken : List ℕ → Bool
 is_taken name = list_any (bytes_eq name) taken_names

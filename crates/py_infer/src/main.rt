@@ -8,6 +8,8 @@ mod plain_type;
 pub mod run;
 pub mod status;
 mod taken;
+#[cfg(test)]
+mod tests;
 mod types;
 mod typing;
 mod words;

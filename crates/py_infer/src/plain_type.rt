@@ -1,7 +1,7 @@
 //! The types of a plain module's names.
 ghost use Rattle.std.specs.Prelude.{◌≡◌};
 
-/// A type that a stub prints (PEP 484).
+/// A type that a stub prints.
 #[derive(Clone, Copy, Debug, PartialEq, Eq)]
 pub enum PlainType {
     NoneType,

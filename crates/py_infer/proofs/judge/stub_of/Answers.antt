@@ -1,3 +1,4 @@
+-- Where the tokens spell no lines, the bytes are no module.
 use Rattle.py_infer.proofs.Judged.{no_module}
 use Rattle.py_infer.proofs.judge.stub_of.Goals as goal
 

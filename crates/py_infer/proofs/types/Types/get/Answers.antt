@@ -1,3 +1,4 @@
+-- A look-up in the map is one in the rows.
 use Rattle.std.proofs.Common.{sym, ap, ◌∙◌}
 use Rattle.py_infer.specs.Stubs.{type_in}
 use Rattle.py_infer.proofs.Rows.{type_in-rows_of}

@@ -1,0 +1,191 @@
+//! What the program answers where memory is ample.
+use crate::run::run;
+use crate::status::Status;
+use outside_io::{MemoryShelf, MemorySink};
+use std::alloc::{AllocError, Global};
+use std::process::Abort;
+use std::test::Fail;
+
+const USAGE: &str = "usage: py_infer COMMAND [OPTIONS] FILE [NAME=STUB ...]\n";
+
+const UNREAD: &str = "m.py: cannot be read\n";
+
+const REFUSED: &str = "m.py: refused: out-of-profile later\n";
+
+// A call: its words, one a line; the text of m.py, where the shelf holds it; and which fetches and puts fail.
+#[derive(Clone, Copy, Debug)]
+struct Call<'a> {
+    words: &'a str,
+    text: Option<&'a str>,
+    fetches: &'a [u32],
+    outs: &'a [u32],
+    notes: &'a [u32],
+}
+
+// `infer m.py` on this text, where nothing fails.
+fn infer(text: &str) -> Call<'_> {
+    Call {
+        words: "infer\nm.py\n",
+        text: Some(text),
+        fetches: &[],
+        outs: &[],
+        notes: &[],
+    }
+}
+
+fn words_of(alloc: Global, lines: &str) -> Result<Vec<String>, AllocError> {
+    let mut words = Vec::new(alloc);
+    for line in lines.lines() {
+        words.push(String::from_str(alloc, line)?)?;
+    }
+    Ok(words)
+}
+
+fn shelf_of(alloc: Global, call: &Call) -> Result<MemoryShelf, AllocError> {
+    let mut shelf = MemoryShelf::new(alloc, call.fetches)?;
+    if let Some(text) = call.text {
+        shelf.add("m.py", text.as_bytes())?;
+    }
+    Ok(shelf)
+}
+
+// Runs the call over sinks that take 4 bytes at a put, and compares what it answers, and what the two sinks took.
+fn compare(
+    rt: &(impl Abort + Alloc<A = Global>),
+    call: Call,
+    status: Status,
+    stub: &str,
+    report: &str,
+) -> Result<(), Fail> {
+    let words = words_of(rt.alloc(), call.words)?;
+    let mut shelf = shelf_of(rt.alloc(), &call)?;
+    let mut out = MemorySink::new(rt.alloc(), 4096, 4, call.outs)?;
+    let mut note = MemorySink::new(rt.alloc(), 4096, 4, call.notes)?;
+    let ending = run(
+        rt.alloc(),
+        words.as_slice(),
+        &mut shelf,
+        &mut out,
+        &mut note,
+    );
+    assert_eq!(rt; ending, status, "at {call:?}");
+    assert_eq!(rt; out.bytes(), stub.as_bytes(), "at {call:?}");
+    assert_eq!(rt; note.bytes(), report.as_bytes(), "at {call:?}");
+    Ok(())
+}
+
+#[test]
+fn writes_the_stub_of_a_plain_module(rt: HostRuntime) -> Result<(), Fail> {
+    let cases = [
+        ("", ""),
+        ("x = 1\ny = x\n", "x: int\ny: int\n"),
+        ("x = 1\nx = \"a\"\n", "x: str\n"),
+        (
+            "b = 1\na = None\nB = True\n_ = \"\"\nc = B\n",
+            "B: bool\n_: str\na: None\nb: int\nc: bool\n",
+        ),
+    ];
+    for (text, stub) in cases {
+        compare(&rt, infer(text), Status::Clean, stub, "")?;
+    }
+    Ok(())
+}
+
+#[test]
+fn refuses_what_is_no_plain_module(rt: HostRuntime) -> Result<(), Fail> {
+    let texts = [
+        "x = \"\u{E9}\"\n",
+        "x = 1.5\n",
+        "x = y\n",
+        "x = x\n",
+        "print = 1\n",
+        "List = 1\n",
+        "x\n",
+        "x = 1 2\n",
+        "x = 1 = 2\n",
+        "1 = x\n",
+        "True = 1\n",
+    ];
+    for text in texts {
+        compare(&rt, infer(text), Status::Refused, "", REFUSED)?;
+    }
+    Ok(())
+}
+
+#[test]
+fn refuses_more_than_the_most_bytes(rt: HostRuntime) -> Result<(), Fail> {
+    let mut text = "\n".repeat(rt.alloc(), 262144)?;
+    compare(&rt, infer(text.as_str()), Status::Clean, "", "")?;
+    text.push('\n')?;
+    compare(&rt, infer(text.as_str()), Status::Refused, "", REFUSED)
+}
+
+#[test]
+fn accepts_infer_and_a_file_alone(rt: HostRuntime) -> Result<(), Fail> {
+    let unaccepted = [
+        "",
+        "infer\n",
+        "infer\n\n",
+        "infer\n-x\n",
+        "infer\nm.py\nn.py\n",
+        "gen\n2\n",
+        "infer\n--\nm.py\n",
+        "Infer\nm.py\n",
+        "infer\n--depth\n2\nm.py\n",
+    ];
+    for words in unaccepted {
+        let call = Call {
+            words,
+            ..infer("x = 1\n")
+        };
+        compare(&rt, call, Status::Usage, "", USAGE)?;
+    }
+    let dash = Call {
+        words: "infer\n-\n",
+        ..infer("x = 1\n")
+    };
+    compare(&rt, dash, Status::ReadFault, "", "-: cannot be read\n")
+}
+
+#[test]
+fn reports_a_file_that_cannot_be_read(rt: HostRuntime) -> Result<(), Fail> {
+    let missing = Call {
+        text: None,
+        ..infer("")
+    };
+    compare(&rt, missing, Status::ReadFault, "", UNREAD)?;
+    let failing = Call {
+        fetches: &[1],
+        ..infer("x = 1\n")
+    };
+    compare(&rt, failing, Status::ReadFault, "", UNREAD)
+}
+
+#[test]
+fn stops_at_a_put_that_fails(rt: HostRuntime) -> Result<(), Fail> {
+    let short_stub = Call {
+        outs: &[2],
+        ..infer("x = 1\ny = x\n")
+    };
+    compare(&rt, short_stub, Status::WriteFault, "x: i", "")?;
+    let short_report = Call {
+        notes: &[3],
+        ..infer("x\n")
+    };
+    compare(&rt, short_report, Status::WriteFault, "", "m.py: re")
+}
+
+#[test]
+fn numbers_the_endings(rt: HostRuntime) {
+    let codes = [
+        Status::Clean.code(),
+        Status::Findings.code(),
+        Status::Usage.code(),
+        Status::Refused.code(),
+        Status::ReadFault.code(),
+        Status::WriteFault.code(),
+        Status::TooLarge.code(),
+        Status::Memory.code(),
+    ];
+    assert_eq!(rt; codes, [0, 1, 2, 3, 4, 5, 6, 7]);
+}
