@@ -8,7 +8,7 @@ use Rattle.py_infer.specs.declared.plain_type.PlainType.{PlainType}
 use Rattle.py_infer.specs.declared.status.Status.{Status as Ending}
 use Rattle.py_infer.specs.declared.status.Status.TheVariants as status
 use Rattle.py_infer.specs.Answers.{clean}
-use Rattle.py_infer.specs.Lines.{Value, nothing, truth, number, text, Expression, literal, name, Line, Held, meaning, assigned, carried, nothing_held, type_of, Belongs}
+use Rattle.py_infer.specs.Lines.{Value, nothing, truth, number, fraction, text, octets, Expression, literal, name, Line, Held, meaning, assigned, carried, nothing_held, type_of, Belongs}
 use Rattle.py_infer.specs.Outputs.{Seen, HoldsModule, IsAsked, for_usage, for_unread, for_refused, for_clean, IsDelivered, AreCovered}
 use Rattle.py_infer.specs.Stubs.{Rows, stub_text, AreRowsOf}
 use Rattle.py_infer.specs.Words.{Accepts}
@@ -18,7 +18,9 @@ belongs_type : (v : Value) → Belongs v (type_of v)
 belongs_type nothing = refl
 belongs_type (truth b) = (b, refl)
 belongs_type (number n) = inl (n, refl)
+belongs_type fraction = refl
 belongs_type (text empty) = (empty, refl)
+belongs_type (octets empty) = (empty, refl)
 
 -- each value that is held belongs to the type that is held for its name
 abbrev Related : Option Value → Option PlainType → Type 0
@@ -64,7 +66,7 @@ module _ (words : List (List ℕ)) (before after : ℕ) (last : Option (List ℕ
   pub clean_covers : (held : Option Files) → IsAsked words held before after last answer → IsDelivered answer out note ending → ending ≡ status.Clean → IfSome held Written
   clean_covers held (for_usage none same) delivered is = absurd (other held status.Usage delivered is (ap (λ (a : Answer). a.status) same) (λ h. cc))
   clean_covers held (for_unread file accepts unread same) delivered is = absurd (other held status.ReadFault delivered is (ap (λ (a : Answer). a.status) same) (λ h. cc))
-  clean_covers held (for_refused file accepts holds same) delivered is = absurd (other held status.Refused delivered is (ap (λ (a : Answer). a.status) same) (λ h. cc))
+  clean_covers held (for_refused file report accepts holds same) delivered is = absurd (other held status.Refused delivered is (ap (λ (a : Answer). a.status) same) (λ h. cc))
   clean_covers held (for_clean file lines rows accepts holds are same) delivered is =
       IfSome_then held holds
       (λ files h. (file, lines, rows, accepts, h, taken held (for_clean file lines rows accepts holds are same) delivered is (stub_text rows) same, rows_cover lines rows are))

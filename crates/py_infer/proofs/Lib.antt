@@ -1,7 +1,10 @@
 pub mod TwoWords
 pub mod Rows
+pub mod Beginnings
 pub mod Spelling
 pub mod Walk
 pub mod Judged
+pub mod Refusing
 pub mod Asking
+pub mod Ending
 pub mod Covering

@@ -11,9 +11,9 @@ usage = record { status = status.Usage; out = []; note = codes "usage: py_infer 
 abbrev pub unread : List ℕ → Answer
 unread file = record { status = status.ReadFault; out = []; note = file ++ (codes ": cannot be read" ++ 10 ∷ []) }
 
--- the file of this name is no plain module
-abbrev pub refused : List ℕ → Answer
-refused file = record { status = status.Refused; out = []; note = file ++ (codes ": refused: out-of-profile later" ++ 10 ∷ []) }
+-- the file of this name is refused, and this is said of it
+abbrev pub refused : List ℕ → List ℕ → Answer
+refused file report = record { status = status.Refused; out = []; note = file ++ report }
 
 -- this is the stub of a plain module
 abbrev pub clean : List ℕ → Answer

@@ -3,6 +3,8 @@ pub mod Words
 pub mod Taken
 pub mod Lines
 pub mod Modules
+pub mod Refusals
+pub mod Reports
 pub mod Stubs
 pub mod Typing
 pub mod Answers

@@ -6,12 +6,14 @@ use Rattle.py_infer.specs.declared.plain_type.PlainType.{PlainType}
 use Rattle.py_infer.specs.declared.plain_type.PlainType.TheVariants as type
 use Rattle.py_infer.specs.Taken.{is_taken}
 
--- Values: None, truth values, whole numbers, and texts, of which only matters whether they are empty.
+-- Values: None, truth values, whole numbers, fractions, and texts and bytes, of which only matters whether they are empty.
 pub data Value : Type 0 where
   nothing : Value
   truth : Bool → Value
   number : ℕ → Value
+  fraction : Value
   text : Bool → Value
+  octets : Bool → Value
 
 -- What a line assigns: a literal, which stands for its value, or what a name holds.
 pub data Expression : Type 0 where
@@ -64,7 +66,9 @@ abbrev pub type_of : Value → PlainType
 type_of nothing = type.NoneType
 type_of (truth b) = type.Bool
 type_of (number n) = type.Int
+type_of fraction = type.Float
 type_of (text empty) = type.Str
+type_of (octets empty) = type.Bytes
 
 -- the type of each name after the lines: that of its last value, where a name as value has the type that it has at its line
 abbrev pub types_after : List Line → Held PlainType
@@ -75,4 +79,6 @@ abbrev pub Belongs : Value → PlainType → Type 0
 Belongs value type.NoneType = value ≡ nothing
 Belongs value type.Bool = (b : Bool) × (value ≡ truth b)
 Belongs value type.Int = ((n : ℕ) × (value ≡ number n)) ⊎ ((b : Bool) × (value ≡ truth b))
+Belongs value type.Float = value ≡ fraction
 Belongs value type.Str = (empty : Bool) × (value ≡ text empty)
+Belongs value type.Bytes = (empty : Bool) × (value ≡ octets empty)

@@ -7,20 +7,17 @@ use Rattle.py_infer.specs.declared.status.Status.TheVariants as status
 use Rattle.py_infer.specs.Answers.{usage, unread, refused, clean}
 use Rattle.py_infer.specs.Lines.{Line, Value, values_after, Belongs}
 use Rattle.py_infer.specs.Modules.{IsModule}
+use Rattle.py_infer.specs.Reports.{Refuses}
 use Rattle.py_infer.specs.Stubs.{Rows, AreRowsOf, stub_text, type_in}
 use Rattle.py_infer.specs.Words.{Accepts, IsUnaccepted}
-
--- no lines make the bytes a plain module
-abbrev pub IsNotModule : List ℕ → Type 0
-IsNotModule bytes = (lines : List Line) → IsModule bytes lines → ⊥
 
 -- the file of this name is held, and is a plain module with these lines
 abbrev pub HoldsModule : Files → List ℕ → List Line → Type 0
 HoldsModule files file lines = IsSomeAnd (files file) (λ bytes. IsModule bytes lines)
 
--- the file of this name is held, and is no plain module
-abbrev pub HoldsOther : Files → List ℕ → Type 0
-HoldsOther files file = IsSomeAnd (files file) IsNotModule
+-- the file of this name is held, and is refused with this report
+abbrev pub HoldsRefused : Files → List ℕ → List ℕ → Type 0
+HoldsRefused files file report = IsSomeAnd (files file) (λ bytes. Refuses bytes report)
 
 -- The file couldn't be read in this call, as the shelf tells.
 abbrev pub IsUnread : ℕ → ℕ → Option (List ℕ) → List ℕ → Type 0
@@ -33,8 +30,8 @@ pub data IsAsked (words : List (List ℕ)) (held : Option Files) (before after :
   for_usage : IsUnaccepted words → answer ≡ usage → IsAsked words held before after last answer
   -- The file couldn't be read.
   for_unread : (file : List ℕ) → Accepts words file → IsUnread before after last file → answer ≡ unread file → IsAsked words held before after last answer
-  -- The file is no plain module.
-  for_refused : (file : List ℕ) → Accepts words file → IfSome held (λ files. HoldsOther files file) → answer ≡ refused file → IsAsked words held before after last answer
+  -- The file is refused with this report.
+  for_refused : (file report : List ℕ) → Accepts words file → IfSome held (λ files. HoldsRefused files file report) → answer ≡ refused file report → IsAsked words held before after last answer
   -- The file is a plain module, and this is its stub.
   for_clean : (file : List ℕ) (lines : List Line) (rows : Rows) → Accepts words file → IfSome held (λ files. HoldsModule files file lines) →
       AreRowsOf lines rows → answer ≡ clean (stub_text rows) → IsAsked words held before after last answer

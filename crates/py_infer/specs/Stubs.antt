@@ -40,7 +40,9 @@ abbrev pub type_text : PlainType → List ℕ
 type_text type.NoneType = codes "None"
 type_text type.Bool = codes "bool"
 type_text type.Int = codes "int"
+type_text type.Float = codes "float"
 type_text type.Str = codes "str"
+type_text type.Bytes = codes "bytes"
 
 -- `NAME: TYPE` on a line of its own
 abbrev pub row_text : Row → List ℕ

@@ -43,13 +43,13 @@ impl Answer {
         })
     }
 
-    /// The file is no plain module.
-    pub fn refused(alloc: Global, file: &str) -> Result<Answer, AllocError>
-        ensures { IfOk result (λ answer. answer ≡ refused file.now) }
+    /// The file is refused, and this is said of it after its name.
+    pub fn refused(alloc: Global, file: &str, report: &Text) -> Result<Answer, AllocError>
+        ensures { IfOk result (λ answer. answer ≡ refused file.now report.now) }
     {
         let mut note = Text::new(alloc);
         note.push(file.as_bytes())?;
-        note.push(b": refused: out-of-profile later\n".as_slice())?;
+        note.push(report.bytes())?;
         Ok(Answer {
             status: Status::Refused,
             out: Text::new(alloc),

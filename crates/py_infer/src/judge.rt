@@ -1,39 +1,38 @@
 //! What a file's bytes ask for.
-ghost use Rattle.std.specs.Prelude.{◌≤◌, length, IfOk, MatchOption};
-ghost use Rattle.std.specs.Str.{IsAscii};
-ghost use Rattle.py_infer.specs.Outputs.{IsNotModule};
-ghost use Rattle.py_infer.specs.Judging.{IsAsciiText, IsStubOf};
+ghost use Rattle.std.specs.Prelude.{◌≡◌, ◌≤◌, length, IfOk, MatchResult};
+ghost use Rattle.py_infer.specs.Judging.{IsStubOf, line_in};
+ghost use Rattle.py_infer.specs.Reports.{Refuses};
 
+use crate::report::{fault_report, line_report, not_utf8_report};
 use crate::typing::types_of;
 use place_ids::Text;
-use py_tokens::{TokenFault, tokens};
+use py_tokens::{Tokens, tokens};
 use std::alloc::{AllocError, Global};
 
-fn ascii_text(bytes: &[u8]) -> Option<&str>
-    ensures { MatchOption result (IsAscii bytes.now → ⊥) (IsAsciiText bytes.now) }
+fn line_of(tokens: &Tokens, place: usize) -> u32
+    ensures { result ≡ line_in tokens.now.tokens place }
 {
-    if bytes.is_ascii() {
-        str::from_utf8(bytes).ok()
-    } else {
-        None
+    match tokens.get(place) {
+        Some(token) => token.span.line,
+        None => 0,
     }
 }
 
-/// The stub of a file of at most 262144 bytes, or none where it is no plain module.
-pub fn stub_of(alloc: Global, bytes: &[u8]) -> Result<Option<Text>, AllocError>
+/// The stub of a file of at most 262144 bytes, or what is said of it after its name where it is no plain module.
+pub fn judged(alloc: Global, bytes: &[u8]) -> Result<Result<Text, Text>, AllocError>
     requires { length bytes.now ≤ 262144 }
-    ensures { IfOk result (λ stub. MatchOption stub (IsNotModule bytes.now) (IsStubOf bytes.now)) }
+    ensures { IfOk result (λ found. MatchResult found (IsStubOf bytes.now) (Refuses bytes.now)) }
 {
-    let Some(text) = ascii_text(bytes) else {
-        return Ok(None);
+    let text = match str::from_utf8(bytes) {
+        Ok(text) => text,
+        Err(error) => return Ok(Err(not_utf8_report(alloc, error.valid_up_to())?)),
     };
     let tokens = match tokens(alloc, text) {
         Ok(tokens) => tokens,
-        Err(TokenFault::Later) => return Ok(None),
-        Err(TokenFault::Memory) => return Err(AllocError),
+        Err(fault) => return Ok(Err(fault_report(alloc, fault)?)),
     };
     match types_of(alloc, &tokens)? {
-        Some(types) => Ok(Some(types.stub()?)),
-        None => Ok(None),
+        Ok(types) => Ok(Ok(types.stub()?)),
+        Err(place) => Ok(Err(line_report(alloc, line_of(&tokens, place), "out-of-profile later")?)),
     }
 }

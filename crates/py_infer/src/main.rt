@@ -5,6 +5,7 @@ mod answer;
 mod judge;
 mod line;
 mod plain_type;
+mod report;
 pub mod run;
 pub mod status;
 mod taken;

@@ -7,7 +7,9 @@ pub enum PlainType {
     NoneType,
     Bool,
     Int,
+    Float,
     Str,
+    Bytes,
 }
 
 impl PlainType {
@@ -21,7 +23,9 @@ impl PlainType {
             PlainType::NoneType => "None",
             PlainType::Bool => "bool",
             PlainType::Int => "int",
+            PlainType::Float => "float",
             PlainType::Str => "str",
+            PlainType::Bytes => "bytes",
         }
     }
 }

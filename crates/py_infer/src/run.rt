@@ -4,15 +4,17 @@ ghost use Rattle.outside_io.specs.Outside.{Rose, Takes};
 ghost use Rattle.py_infer.specs.declared.answer.Answer.{Answer as Answer'};
 ghost use Rattle.py_infer.specs.Answers.{refused, unread, usage};
 ghost use Rattle.py_infer.specs.Lines.{Line};
-ghost use Rattle.py_infer.specs.Outputs.{AreCovered, AreCut, HoldsModule, HoldsOther, IsAsked, IsCut, IsDelivered, IsUnread, seen};
+ghost use Rattle.py_infer.specs.Outputs.{AreCovered, AreCut, HoldsModule, HoldsRefused, IsAsked, IsCut, IsDelivered, IsUnread, seen};
 ghost use Rattle.py_infer.specs.Stubs.{AreRowsOf, Rows, stub_text};
 ghost use Rattle.py_infer.specs.Words.{Accepts, IsUnaccepted, texts_of};
 
 use crate::answer::Answer;
-use crate::judge::stub_of;
+use crate::judge::judged;
+use crate::report::whole_report;
 use crate::status::Status;
 use crate::words::accepted_file;
 use outside_io::{Fetched, Shelf, ShelfFault, Sink, put_all};
+use py_tokens::laws::one_answer;
 use std::alloc::{AllocError, Global};
 
 /// The most bytes that a file may have.
@@ -27,11 +29,14 @@ fn asked<S: Shelf>(alloc: Global, words: &[String], shelf: &mut S) -> Result<Ans
         return Answer::usage(alloc);
     };
     match shelf.fetch(alloc, file, MOST_BYTES) {
-        Ok(Fetched::Whole(bytes)) => match stub_of(alloc, bytes.as_slice())? {
-            Some(stub) => Ok(Answer::clean(alloc, stub)),
-            None => Answer::refused(alloc, file),
+        Ok(Fetched::Whole(bytes)) => match judged(alloc, bytes.as_slice())? {
+            Ok(stub) => Ok(Answer::clean(alloc, stub)),
+            Err(report) => Answer::refused(alloc, file, &report),
         },
-        Ok(Fetched::TooLong) => Answer::refused(alloc, file),
+        Ok(Fetched::TooLong) => {
+            let report = whole_report(alloc, "too-long")?;
+            Answer::refused(alloc, file, &report)
+        }
         Err(ShelfFault::Failed) => Answer::unread(alloc, file),
         Err(ShelfFault::Memory) => Err(AllocError),
     }
@@ -66,11 +71,11 @@ pub fn run<S: Shelf, O: Sink, E: Sink>(
         × (O.taken out.new ≡ O.taken out.old) × Takes (E.taken note.old) (E.taken note.new) usage.note }
     ensures usage_always { IsUnaccepted (texts_of words.now) → (result ≡ Status.Usage) ⊎ IsCut result }
 
-    // Refused comes exactly where the file is no plain module.
-    ensures refused { result ≡ Status.Refused → (file : List ℕ) × Accepts (texts_of words.now) file
-        × IfSome (S.held shelf.old) (λ files. HoldsOther files file)
-        × (O.taken out.new ≡ O.taken out.old) × Takes (E.taken note.old) (E.taken note.new) (refused file).note }
-    ensures refused_always { (file : List ℕ) → Accepts (texts_of words.now) file → IsSomeAnd (S.held shelf.old) (λ files. HoldsOther files file)
+    // Refused comes exactly where the file is refused, with exactly its report.
+    ensures refused { result ≡ Status.Refused → (file report : List ℕ) × Accepts (texts_of words.now) file
+        × IfSome (S.held shelf.old) (λ files. HoldsRefused files file report)
+        × (O.taken out.new ≡ O.taken out.old) × Takes (E.taken note.old) (E.taken note.new) (refused file report).note }
+    ensures refused_always { (file report : List ℕ) → Accepts (texts_of words.now) file → IsSomeAnd (S.held shelf.old) (λ files. HoldsRefused files file report)
         → (result ≡ Status.Refused) ⊎ (result ≡ Status.ReadFault) ⊎ IsCut result }
 
     // ReadFault comes only where the shelf failed in this call, and the file is the last that it failed to fetch.
@@ -109,6 +114,7 @@ pub fn run<S: Shelf, O: Sink, E: Sink>(
     ensures memory { result ≡ Status.Memory → (O.taken out.new ≡ O.taken out.old) × (E.taken note.new ≡ E.taken note.old) }
     ensures held { S.held shelf.new ≡ S.held shelf.old }
 {
+    one_answer();
     match asked(alloc, words, shelf) {
         Ok(answer) => deliver(&answer, out, note),
         Err(AllocError) => Status::Memory,

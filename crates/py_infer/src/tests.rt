@@ -10,13 +10,13 @@ const USAGE: &str = "usage: py_infer COMMAND [OPTIONS] FILE [NAME=STUB ...]\n";
 
 const UNREAD: &str = "m.py: cannot be read\n";
 
-const REFUSED: &str = "m.py: refused: out-of-profile later\n";
+const TOO_LONG: &str = "m.py: refused: too-long\n";
 
 // A call: its words, one a line; the text of m.py, where the shelf holds it; and which fetches and puts fail.
 #[derive(Clone, Copy, Debug)]
 struct Call<'a> {
     words: &'a str,
-    text: Option<&'a str>,
+    text: Option<&'a [u8]>,
     fetches: &'a [u32],
     outs: &'a [u32],
     notes: &'a [u32],
@@ -26,7 +26,7 @@ struct Call<'a> {
 fn infer(text: &str) -> Call<'_> {
     Call {
         words: "infer\nm.py\n",
-        text: Some(text),
+        text: Some(text.as_bytes()),
         fetches: &[],
         outs: &[],
         notes: &[],
@@ -44,7 +44,7 @@ fn words_of(alloc: Global, lines: &str) -> Result<Vec<String>, AllocError> {
 fn shelf_of(alloc: Global, call: &Call) -> Result<MemoryShelf, AllocError> {
     let mut shelf = MemoryShelf::new(alloc, call.fetches)?;
     if let Some(text) = call.text {
-        shelf.add("m.py", text.as_bytes())?;
+        shelf.add("m.py", text)?;
     }
     Ok(shelf)
 }
@@ -84,6 +84,16 @@ fn writes_the_stub_of_a_plain_module(rt: HostRuntime) -> Result<(), Fail> {
             "b = 1\na = None\nB = True\n_ = \"\"\nc = B\n",
             "B: bool\n_: str\na: None\nb: int\nc: bool\n",
         ),
+        ("x = \"\u{E9}\"\n", "x: str\n"),
+        ("\u{E9} = 1\n", "\u{E9}: int\n"),
+        ("x = 340282366920938463463374607431768211455\n", "x: int\n"),
+        ("x = 1.5\n", "x: float\n"),
+        ("x = b\"a\"\ny = x\n", "x: bytes\ny: bytes\n"),
+        (
+            "\u{FEFF}x = 1\r\n# c\n\n  # d\r\ny = x # e",
+            "x: int\ny: int\n",
+        ),
+        ("x = \\\n1\n", "x: int\n"),
     ];
     for (text, stub) in cases {
         compare(&rt, infer(text), Status::Clean, stub, "")?;
@@ -92,22 +102,66 @@ fn writes_the_stub_of_a_plain_module(rt: HostRuntime) -> Result<(), Fail> {
 }
 
 #[test]
-fn refuses_what_is_no_plain_module(rt: HostRuntime) -> Result<(), Fail> {
-    let texts = [
-        "x = \"\u{E9}\"\n",
-        "x = 1.5\n",
-        "x = y\n",
-        "x = x\n",
-        "print = 1\n",
-        "List = 1\n",
-        "x\n",
-        "x = 1 2\n",
-        "x = 1 = 2\n",
-        "1 = x\n",
-        "True = 1\n",
+fn names_the_fault_of_a_text(rt: HostRuntime) -> Result<(), Fail> {
+    let cases = [
+        ("x = 07", "m.py:1: refused: bad-number\n"),
+        ("x = f\"a\"", "m.py:1: refused: prefix\n"),
+        ("x = 1 ?", "m.py:1: refused: bad-character\n"),
+        (
+            "x = 340282366920938463463374607431768211456",
+            "m.py:1: refused: wide-int\n",
+        ),
+        ("x = (1,", "m.py:1: refused: open-bracket\n"),
+        ("x = \"a", "m.py:1: refused: open-string\n"),
+        ("x = 1\n\u{FB01} = 1\n", "m.py:2: refused: not-nfkc\n"),
+        (
+            "if True:\n        x = 1\n    y = 2\n",
+            "m.py:3: refused: bad-indent\n",
+        ),
+        (
+            "if True:\n    x = 1\n\ty = 2\n",
+            "m.py:3: refused: mixed-tabs\n",
+        ),
     ];
-    for text in texts {
-        compare(&rt, infer(text), Status::Refused, "", REFUSED)?;
+    for (text, report) in cases {
+        compare(&rt, infer(text), Status::Refused, "", report)?;
+    }
+    Ok(())
+}
+
+#[test]
+fn refuses_what_is_not_utf8(rt: HostRuntime) -> Result<(), Fail> {
+    let call = Call {
+        text: Some(b"x = \xFF".as_slice()),
+        ..infer("")
+    };
+    let report = "m.py: refused: not-utf8 at 4\n";
+    compare(&rt, call, Status::Refused, "", report)
+}
+
+#[test]
+fn refuses_what_is_no_plain_module(rt: HostRuntime) -> Result<(), Fail> {
+    let first = "m.py:1: refused: out-of-profile later\n";
+    let second = "m.py:2: refused: out-of-profile later\n";
+    let cases = [
+        ("x = y\n", first),
+        ("x = x\n", first),
+        ("print = 1\n", first),
+        ("List = 1\n", first),
+        ("x\n", first),
+        ("x = 1 2\n", first),
+        ("x = 1 = 2\n", first),
+        ("1 = x\n", first),
+        ("True = 1\n", first),
+        ("x = 1j\n", first),
+        ("if x:\n  y = 1", first),
+        ("x = \\\n1 2\n", second),
+        ("x = 1\ny = z\n", second),
+        ("x = 1\nif x:\n    y = 2\n", second),
+        ("x = \"a\"\n\"b\"\n", second),
+    ];
+    for (text, report) in cases {
+        compare(&rt, infer(text), Status::Refused, "", report)?;
     }
     Ok(())
 }
@@ -117,7 +171,7 @@ fn refuses_more_than_the_most_bytes(rt: HostRuntime) -> Result<(), Fail> {
     let mut text = "\n".repeat(rt.alloc(), 262144)?;
     compare(&rt, infer(text.as_str()), Status::Clean, "", "")?;
     text.push('\n')?;
-    compare(&rt, infer(text.as_str()), Status::Refused, "", REFUSED)
+    compare(&rt, infer(text.as_str()), Status::Refused, "", TOO_LONG)
 }
 
 #[test]
@@ -172,7 +226,7 @@ fn stops_at_a_put_that_fails(rt: HostRuntime) -> Result<(), Fail> {
         notes: &[3],
         ..infer("x\n")
     };
-    compare(&rt, short_report, Status::WriteFault, "", "m.py: re")
+    compare(&rt, short_report, Status::WriteFault, "", "m.py:1: ")
 }
 
 #[test]

@@ -1,6 +1,16 @@
-pub mod Classes
-pub mod Digits
-pub mod Runs
-pub mod Lexemes
-pub mod Steps
-pub mod Scans
+mod Classes
+mod RunLemmas
+mod Lanes
+mod RowLemmas
+mod WordLemmas
+mod OperatorLemmas
+mod AsciiFronts
+mod NumeralLemmas
+mod LiteralLemmas
+mod Cuts
+mod FrontLemmas
+mod Marks
+mod Turns
+mod OneAnswer
+mod Scans
+mod Gaps

@@ -1,33 +1,27 @@
 -- Each line goes on with the walk.
-use Rattle.std.proofs.Common.{sym, subst, arith}
-use Rattle.std.proofs.lemmas.Bool.{MatchBool-at_false, MatchBool-at_true}
-use Rattle.py_infer.specs.Modules.{kinds}
-use Rattle.py_infer.proofs.Walk.{Walks, walks_start, walks_next, walks_refused, walks_answer, ordered_none, line_within}
+use Rattle.std.proofs.Common.{sym, ◌∙◌, subst}
+use Rattle.std.proofs.lemmas.Bool.{false≢true}
+use Rattle.py_infer.proofs.Walk.{Walks, walks_start, walks_next, walks_stop, walks_end, walks_past}
 use Rattle.py_infer.proofs.typing.types_of.Goals as goal
 
-pub loop-line-init : goal.loop-line-init
-loop-line-init c =
-    let tokens = c.args.tokens.now in
-    subst (Walks tokens.names (kinds tokens.tokens) 0) (sym c.new-types.ensures) (walks_start tokens.names (kinds tokens.tokens) ordered_none)
+pub loop-types-init : goal.loop-types-init
+loop-types-init c = subst (Walks c.args.tokens.now 0) (sym c.new-types.ensures) (walks_start c.args.tokens.now c.requires.ended)
 
-pub returns-then-not-branch : goal.returns-then-not-branch
-returns-then-not-branch c =
-    let tokens = c.args.tokens.now in
-    let line = c.in-Some.line in
-    let none = MatchBool-at_false _ _ c.if-not-branch.true (rw c.names.ensures at c.in_ok-assign.ensures) in
-    walks_refused tokens.names (kinds tokens.tokens) c.loop-line.place c.loop-line.types c.loop-line.invariant line.target line.value c.in-Some.ensures.line none
+pub returns-in-Err : goal.returns-in-Err
+returns-in-Err c =
+    walks_stop c.args.tokens.now c.loop-types.place c.loop-types.types c.loop-types.invariant c.in-Err.refused
+    (λ h. false≢true (sym c.loop-types-test.true ∙ c.is_end_at.ensures.1 h)) c.in-Err.ensures
 
-pub loop-line-smaller : goal.loop-line-smaller
-loop-line-smaller c = omega (arith, line_within c.args.tokens.now.tokens c.loop-line.place c.in-Some.line.target c.in-Some.line.value c.in-Some.ensures.line)
+pub loop-types-preserved : goal.loop-types-preserved
+loop-types-preserved c =
+    walks_next c.args.tokens.now c.loop-types.place c.loop-types.types c.loop-types.invariant c.in-Ok.line.target.now c.in-Ok.line.plain_type c.in-Ok.ensures
+    c.set.new.self c.in_ok-set.ensures.ordered c.in_ok-set.ensures.set
 
-pub loop-line-preserved : goal.loop-line-preserved
-loop-line-preserved c =
-    let tokens = c.args.tokens.now in
-    let line = c.in-Some.line in
-    let some = MatchBool-at_true _ _ c.if-not-branch.false (rw c.names.ensures at c.in_ok-assign.ensures) in
-    walks_next tokens.names (kinds tokens.tokens) c.loop-line.place c.loop-line.types c.loop-line.invariant line.target line.value c.in-Some.ensures.line c.assign.new.types some
+pub returns-then-place-len : goal.returns-then-place-len
+returns-then-place-len c =
+    walks_end c.args.tokens.now c.loop-types.place c.loop-types.types c.loop-types.invariant (c.is_end_at.ensures.0 c.loop-types-test.false) (c.if-place-len.true ∙ c.len.ensures)
 
-pub returns : goal.returns
-returns c =
-    rw c.then_some.ensures
-    (walks_answer c.args.tokens.now c.loop-line.place c.loop-line.types c.loop-line.invariant c.in_default.ensures.none c.is_end_at.result c.is_end_at.ensures)
+pub returns-else-place-len : goal.returns-else-place-len
+returns-else-place-len c =
+    walks_past c.args.tokens.now c.loop-types.place c.loop-types.types c.loop-types.invariant (c.is_end_at.ensures.0 c.loop-types-test.false)
+    (λ h. c.if-place-len.false (h ∙ sym c.len.ensures))
