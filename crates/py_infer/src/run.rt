@@ -24,6 +24,7 @@ const MOST_BYTES: usize = 262144;
 fn asked<S: Shelf>(alloc: Global, words: &[String], shelf: &mut S) -> Result<Answer, AllocError>
     ensures asked { IfOk result (IsAsked (texts_of words.now) (S.held shelf.old) (S.faults shelf.old) (S.faults shelf.new) (S.last shelf.new)) }
     ensures held { S.held shelf.new ≡ S.held shelf.old }
+    ensures quiet { IfOk result (λ answer. answer.status ≢ Status.ReadFault → (S.faults shelf.new ≡ S.faults shelf.old) × (S.last shelf.new ≡ S.last shelf.old)) }
 {
     let Some(file) = accepted_file(words) else {
         return Answer::usage(alloc);
@@ -109,6 +110,10 @@ pub fn run<S: Shelf, O: Sink, E: Sink>(
         → (result ≡ Status.Clean) ⊎ (result ≡ Status.Memory) }
 
     ensures never { (result ≢ Status.Findings) × (result ≢ Status.TooLarge) }
+
+    // No other fetch failed where the answer is the file's, or the words'.
+    ensures quiet { (result ≡ Status.Clean) ⊎ (result ≡ Status.Refused) ⊎ (result ≡ Status.Usage)
+        → (S.faults shelf.new ≡ S.faults shelf.old) × (S.last shelf.new ≡ S.last shelf.old) }
 
     // After want of memory both sinks are as before.
     ensures memory { result ≡ Status.Memory → (O.taken out.new ≡ O.taken out.old) × (E.taken note.new ≡ E.taken note.old) }
