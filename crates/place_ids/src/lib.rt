@@ -5,6 +5,7 @@ mod graph_ids;
 mod id;
 mod lines;
 mod names;
+mod operators;
 mod sequence;
 mod table;
 #[cfg(test)]
@@ -16,6 +17,7 @@ pub use graph_ids::{ContextId, PointId, ShapeId, VarId};
 pub use id::Id;
 pub use lines::{LineNo, Span};
 pub use names::Names;
+pub use operators::{BinOp, CompareOp, UnaryOp};
 pub use sequence::Sequence;
 pub use table::{PushFault, Table};
 pub use text::Text;
