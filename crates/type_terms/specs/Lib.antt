@@ -1,0 +1,13 @@
+pub mod Terms
+pub mod View
+pub mod Texts
+pub mod Codes
+pub mod Exceptions
+pub mod Order
+pub mod Normal
+pub mod Ordered
+pub mod Laws
+pub mod Stubs
+pub mod BuiltinNames
+pub mod ProperStubs
+pub mod StubSets
