@@ -1,0 +1,10 @@
+pub mod Looks
+pub mod Gathers
+pub mod Rows
+pub mod Agree
+pub mod Contexts
+pub mod Totals
+pub mod Tables
+pub mod Keeps
+pub mod Clashing
+pub mod Results
