@@ -1,0 +1,4 @@
+pub mod Graphs
+pub mod Backs
+pub mod States
+pub mod Memos
