@@ -5,3 +5,4 @@ pub mod Grown
 pub mod Searching
 pub mod Memory
 pub mod Additions
+pub mod Drafts
