@@ -1,4 +1,5 @@
 //! Graphs whose edges ask. A comment follows the back states of its question, each written as a point and what is wanted there.
+// Read from a root with nothing wanted back to the question, it is the walk that explains a Yes.
 use crate::Answer::{No, Yes};
 use crate::tests::rows::check_rows;
 use crate::tests::sketch::Place::{Inner, Root};

@@ -1,4 +1,5 @@
 //! Graphs with loops and cycles. A comment follows the back states of its question, each written as a point and what is wanted there.
+// Read from a root with nothing wanted back to the question, it is the walk that explains a Yes.
 use crate::Answer::{No, Yes};
 use crate::tests::rows::check_rows;
 use crate::tests::sketch::Place::{Inner, Root};
@@ -19,6 +20,7 @@ const WITHOUT_FACTS: [Row; 2] = [
         questions: &[
             // The walk with no step.
             Question(0, &[], Yes, 1),
+            // It ends with nothing.
             Question(0, &[(0, 0)], No, 1),
             // There is no such point.
             Question(7, &[], No, 1),
