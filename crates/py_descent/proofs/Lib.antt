@@ -13,6 +13,7 @@ pub mod SoundSimple
 pub mod SoundDefinitions
 pub mod SoundStatements
 pub mod Sound
+pub mod Each
 pub mod Doing
 pub mod Stops
 pub mod Begins

@@ -1,0 +1,13 @@
+pub mod Aims
+pub mod Assigned
+pub mod Depths
+pub mod Handling
+pub mod Keeps
+pub mod Params
+pub mod Parsing
+pub mod Pushes
+pub mod Rounds
+pub mod Steps
+pub mod TargetLists
+pub mod Tokens
+pub mod Views
