@@ -1,0 +1,8 @@
+use Rattle.std.proofs.Common.{◌≡◌, ◌++◌, drop}
+use Rattle.scope_rules.specs.declared.fault.Rule.TheVariants as rule
+use Rattle.scope_rules.specs.Rules.{jump_faults, breaks_outside}
+use Rattle.py_scope.proofs.jump_rules.breaks_outside.Given as goal
+use Rattle.scope_rules.specs.Jumps.{is_exit}
+
+abbrev pub invariant-loop-j : goal.invariant-loop-j
+invariant-loop-j l = l.out ++ jump_faults rule.BreakOutsideLoop (is_exit) (drop l.j-index l.jumps) ≡ l.initial.out ++ breaks_outside l.jumps

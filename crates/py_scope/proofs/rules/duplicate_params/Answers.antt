@@ -1,0 +1,19 @@
+use Rattle.std.proofs.Common.{◌≡◌, ◌∙◌, ◌&&◌, ap, take}
+use Rattle.scope_rules.specs.declared.fault.Rule.TheVariants as rule
+use Rattle.scope_rules.specs.NameLists.{with_name_if}
+use Rattle.scope_rules.specs.Named.{mentioned}
+use Rattle.scope_rules.specs.Roles.{is_parameter}
+use Rattle.scope_rules.specs.Rules.{repeats_parameter}
+use Rattle.py_scope.proofs.MentionLemmas.{named_step, has_named, faults_step}
+use Rattle.py_scope.proofs.rules.duplicate_params.Goals as goal
+
+pub loop-m-preserved : goal.loop-m-preserved
+loop-m-preserved c =
+    let ms = c.args.mentions.now in
+    let i = c.loop-m.m-index in
+    let m = c.m-item.result in
+    let broken : c.repeats_parameter.result ≡ repeats_parameter (take i ms) m = c.repeats_parameter.ensures ∙ ap (λ b. is_parameter m.role && b) (has_named is_parameter (take i ms) c.loop-m.seen m.name c.loop-m.invariant.seen) in
+    record {
+      faults = faults_step rule.DuplicateParam repeats_parameter ms i m _ _ _ _ c.loop-m-test.true c.m-item.is broken c.in_ok-fault_if.ensures c.loop-m.invariant.faults;
+      seen = c.in_ok-insert_if.ensures ∙ ap (λ b. with_name_if b c.loop-m.seen m.name) c.is_parameter.ensures ∙ named_step is_parameter ms i m c.loop-m.seen c.loop-m-test.true c.m-item.is c.loop-m.invariant.seen;
+    }

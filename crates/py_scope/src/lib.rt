@@ -1,0 +1,31 @@
+//! The static rules of a module, and what its names stand for.
+#![tactic(auto)]
+
+mod bodies;
+mod builtins;
+mod class_row;
+mod class_rules;
+mod expressions;
+mod fault;
+mod judging;
+mod jump_rules;
+mod jumps;
+mod listing;
+mod mention;
+mod name_set;
+mod names_of;
+mod printed;
+mod roles;
+mod rows;
+mod rules;
+mod scopes;
+mod scoping;
+mod tables;
+mod targets;
+#[cfg(test)]
+mod tests;
+mod uses;
+
+pub use scope_rules::ScopeFault;
+pub use scopes::Scopes;
+pub use scoping::scope;

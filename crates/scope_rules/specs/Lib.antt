@@ -1,0 +1,13 @@
+pub mod Answers
+pub mod Builtins
+pub mod Faults
+pub mod Jumps
+pub mod Mentions
+pub mod Named
+pub mod NameLists
+pub mod Printed
+pub mod Roles
+pub mod Rules
+pub mod Scoped
+pub mod Tables
+pub mod Uses
