@@ -1,0 +1,5 @@
+pub mod Effects
+pub mod FirstBreaks
+pub mod Lists
+pub mod Searching
+pub mod Ways

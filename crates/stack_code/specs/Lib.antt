@@ -1,0 +1,4 @@
+pub mod Effects
+pub mod Depths
+pub mod Validity
+pub mod Search
