@@ -1,0 +1,4 @@
+pub mod Known
+pub mod Forms
+pub mod Unbuilt
+pub mod Least
