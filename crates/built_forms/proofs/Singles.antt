@@ -1,5 +1,5 @@
 -- Targets that are not one.
-use Rattle.std.proofs.Common.{◌≡◌, ℕ, ◌≤◌, List, [], ◌∷◌, length, Option, None, refl, arith}
+use Rattle.std.proofs.Common.{◌≡◌, ◌≤◌, List, [], ◌∷◌, length, None, refl, arith}
 use Rattle.py_tree.specs.declared.expression.Expr as rust_expr
 use Rattle.py_tree.specs.View.{exprs_view}
 use Rattle.built_forms.specs.Forms.{single_name}

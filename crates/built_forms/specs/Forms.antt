@@ -2,7 +2,7 @@
 -- earlier statement assigns (language reference, "Assignment statements", "Literals", "Identifiers (Names)").
 use Rattle.std.specs.Prelude.{ℕ, Bool, true, false, List, Option, Some, None}
 use Rattle.std.specs.Option.{is_some}
-use Rattle.py_tree.specs.Tree.{Expr, node, ExprKind, name, literal, Exprs, no_exprs, expr, Stmt, statement, StmtKind, assign}
+use Rattle.py_tree.specs.Tree.{Expr, node, ExprKind, name, literal, Exprs, no_exprs, expr, StmtKind, assign}
 use Rattle.built_forms.specs.Known.{is_known}
 
 -- the name that a node is
