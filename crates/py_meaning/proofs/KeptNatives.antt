@@ -1,0 +1,425 @@
+-- Natives and names keep values within the heap.
+use Rattle.std.proofs.Common.{ℕ, zero, suc, ◌≤◌, Bool, true, false, if◌then◌else◌, List, [], ◌∷◌, ◌++◌, length, Option, Some, None, slice_get, unwrap_or, arith}
+use Rattle.std.specs.Prelude.{codes, insert, remove, take, drop}
+use Rattle.std.specs.Str.{bytes_eq}
+use Rattle.builtin_stubs.specs.declared.native.NativeSort.{NativeSort}
+use Rattle.builtin_stubs.specs.declared.native.NativeSort.TheVariants as sort
+use Rattle.builtin_stubs.specs.Meanings as meaning
+use Rattle.builtin_stubs.specs.Meanings.{Native, Effect, Part, Outcome}
+use Rattle.builtin_stubs.specs.Natives.{natives, function_number}
+use Rattle.type_terms.specs.Terms as term
+use Rattle.py_meaning.specs.Values.{Value, none, truth, text, ref, Entries, entry, with_entry}
+use Rattle.py_meaning.specs.Objects as object
+use Rattle.py_meaning.specs.Objects.{Object, object_at, builtin}
+use Rattle.py_meaning.specs.Events.{FaultKind}
+use Rattle.py_meaning.specs.Programs.{Program, text_at, is_local, is_bound}
+use Rattle.py_meaning.specs.Contents.{Pair, pairs, contents, contents_at, read, read_all, read_pairs}
+use Rattle.py_meaning.specs.Fresh.{fresh_text, of_kind}
+use Rattle.py_meaning.specs.Iteration.{iterate, items_of, is_iterable}
+use Rattle.py_meaning.specs.ClassTests.{decided, instance_test, class_at}
+use Rattle.py_meaning.specs.Matching.{native_fault}
+use Rattle.py_meaning.specs.Dicts.{pairs_added, add_pairs, add_two, is_outside_at, add_item, add_each, add_through, add_from_object, add_from}
+use Rattle.py_meaning.specs.Natives.{values, word_pairs, call_by_texts, argument_or, gives_none, given_items, some_of, three_of, list_parts, tuple_parts, own_pairs, filled_from, new_dict, one_or_error, least_or_most, tells_class, outcome_value, entering, parts_added, add_parts, enter_all, effects_on, do_effects, inserts, take_part, pops, removes, clears, some_pair, gets, sets_default, pair_taken, given_or_error, pops_pair, updates, Deed, by_its_row, insert_deed, pop_deed, remove_deed, clear_deed, get_deed, pop_pair_deed, default_deed, update_deed, deed_of, do_by_row, do_deed, do_native, call_native}
+use Rattle.py_meaning.specs.Names.{found_or, native_value, builtin_value, global_value, value_in_frame, load, with_globals, with_locals, changed_in_frame, bound, store}
+use Rattle.py_meaning.specs.Actions.{Frame, Memory, Argument, Action, gives, counts, looks, bind, then_do, allocate, replace, anything, is_even, pick, one_of, raise_builtin, may_raise, fails, done}
+use Rattle.py_meaning.specs.References.{IsWithin, AreWithin, EntriesWithin, PairsWithin, OptionWithin, ObjectWithin}
+use Rattle.py_meaning.proofs.Kept.{within_on, are_on, pairs_on, option_on, object_on, FrameWithin, size, Good, Safe, Free, ArgumentsWithin, safe_bind, safe_then, safe_takes, safe_counts, safe_looks, safe_if, safe_on, safe_allocate, safe_done, safe_replace, safe_at, object_within, safe_pick, safe_anything, safe_raise, safe_fails, safe_may, safe_option, safe_gives, safe_gives_all, are_append, pairs_append, get_within, or_within, entry_within, with_entry_within}
+use Rattle.py_meaning.proofs.KeptValues.{text_safe, kind_safe, ContentWithin, ContentPairsWithin, contents_within, contents_at_within, content_pairs_within, read_safe, read_all_safe, read_pairs_safe, StepWithin, element_safe, iterate_safe, items_safe}
+use Rattle.py_meaning.proofs.KeptParts.{part_safe, OnePairWithin, one_pair_within, decided_safe}
+
+-- ---- dicts
+
+pairs_added_safe : (place n : ℕ) (qs : List (Value × Value)) (o : Object) → PairsWithin n qs → ObjectWithin n o → Safe n Free (pairs_added place qs o)
+pairs_added_safe place n qs (object.dict site ps) h k = safe_replace n place (object.dict site (ps ++ qs)) (pairs_append n ps qs k h)
+pairs_added_safe place n qs (object.list site vs) h k = safe_done n
+pairs_added_safe place n qs _ h k = safe_done n
+
+pub add_pairs_safe : (place n : ℕ) (qs : List (Value × Value)) → PairsWithin n qs → Safe n Free (add_pairs place qs)
+add_pairs_safe place n qs h = safe_at n Free place (pairs_added place qs) (λ o k le w. pairs_added_safe place k qs o (pairs_on n k qs le h) w)
+
+add_two_safe : (place n : ℕ) (vs : List Value) → AreWithin n vs → Safe n Free (add_two place vs)
+add_two_safe place n (k ∷ v ∷ []) h = add_pairs_safe place n ((k, v) ∷ []) (h.0, h.1.0, tt)
+add_two_safe place n [] h = safe_raise n Free (codes "ValueError")
+add_two_safe place n _ h = safe_raise n Free (codes "ValueError")
+
+add_item_safe : (p : Program) (place n : ℕ) (v : Value) → IsWithin n v → Safe n Free (add_item p place v)
+add_item_safe p place n v h =
+    safe_looks n Free _ (λ m good le. safe_if (size m) Free (is_outside_at m.heap v) _ _
+    (safe_bind (size m) IsWithin Free anything _ (safe_anything (size m)) (λ k i le' a. safe_bind i IsWithin Free anything _ (safe_anything i) (λ w j le'' b. add_pairs_safe place j ((k, w) ∷ []) (within_on i j k le'' a, b, tt))))
+    (safe_if (size m) Free (is_iterable m.heap v) _ _ (safe_bind (size m) AreWithin Free (items_of p v) (add_two place) (items_safe p (size m) v (within_on n (size m) v le h)) (λ vs i le' w. add_two_safe place i vs w)) (safe_raise (size m) Free (codes "TypeError"))))
+
+add_each_safe : (p : Program) (place n : ℕ) (vs : List Value) → AreWithin n vs → Safe n Free (add_each p place vs)
+add_each_safe p place n [] h = safe_done n
+add_each_safe p place n (v ∷ vs) h = safe_then n Free Free (add_item p place v) (add_each p place vs) (add_item_safe p place n v h.0) (λ k le. add_each_safe p place k vs (are_on n k vs le h.1))
+
+add_through_safe : (p : Program) (place fuel n : ℕ) (v : Value) → IsWithin n v → Safe n Free (add_through p place fuel v)
+add_through_safe p place zero n v h = safe_bind n StepWithin Free (iterate p v) (λ one. done) (iterate_safe p n v h) (λ one k le w. safe_done k)
+add_through_safe p place (suc fuel) n v h =
+    safe_bind n StepWithin Free (iterate p v) _ (iterate_safe p n v h) (λ one k le w. element_safe k Free one (λ u. then_do (add_item p place u) (add_through p place fuel v)) done w
+    (λ u x. safe_then k Free Free (add_item p place u) (add_through p place fuel v) (add_item_safe p place k u x) (λ j le'. add_through_safe p place fuel j v (within_on k j v le' (within_on n k v le h)))) (safe_done k))
+
+through_safe : (p : Program) (place n : ℕ) (v : Value) → IsWithin n v → Safe n Free (counts (λ fuel. add_through p place fuel v))
+through_safe p place n v h = safe_counts n Free (λ fuel. add_through p place fuel v) (λ fuel. add_through_safe p place fuel n v h)
+
+add_object_safe : (p : Program) (place n : ℕ) (v : Value) (o : Object) → IsWithin n v → ObjectWithin n o → Safe n Free (add_from_object p place v o)
+add_object_safe p place n v (object.dict site ps) a h = add_pairs_safe place n ps h
+add_object_safe p place n v (object.outside (term.dict t u)) a h =
+    safe_bind n PairsWithin Free (read_pairs p (pairs (object.outside (term.dict t u)))) (add_pairs place) (read_pairs_safe p n (pairs (object.outside (term.dict t u))) (content_pairs_within n (object.outside (term.dict t u)) tt)) (λ qs k le w. add_pairs_safe place k qs w)
+add_object_safe p place n v (object.list site vs) a h = add_each_safe p place n vs h
+add_object_safe p place n v (object.tuple site layout vs) a h = add_each_safe p place n vs h
+add_object_safe p place n v _ a h = through_safe p place n v a
+
+pub add_from_safe : (p : Program) (place n : ℕ) (v : Value) → IsWithin n v → Safe n Free (add_from p place v)
+add_from_safe p place n (ref other) a = safe_at n Free other (add_from_object p place (ref other)) (λ o k le w. add_object_safe p place k (ref other) o (within_on n k (ref other) le a) w)
+add_from_safe p place n none a = through_safe p place n none a
+add_from_safe p place n v a = through_safe p place n v a
+
+-- ---- arguments
+
+add_value : (n : ℕ) (o : Option ℕ) (v : Value) (vs : List Value) → IsWithin n v → AreWithin n vs → AreWithin n (elim o [ None ↦ v ∷ vs | Some k ↦ vs ])
+add_value n None v vs h k = (h, k)
+add_value n (Some i) v vs h k = k
+
+pub values_within : (n : ℕ) (as' : List Argument) → ArgumentsWithin n as' → AreWithin n (values as')
+values_within n [] h = tt
+values_within n (a ∷ as') h = add_value n a.name a.value (values as') h.0 (values_within n as' h.1)
+
+add_word : (n : ℕ) (o : Option ℕ) (v : Value) (qs : List (Value × Value)) → IsWithin n v → PairsWithin n qs → PairsWithin n (elim o [ None ↦ qs | Some k ↦ (text false, v) ∷ qs ])
+add_word n None v qs h k = k
+add_word n (Some i) v qs h k = (tt, h, k)
+
+words_within : (n : ℕ) (as' : List Argument) → ArgumentsWithin n as' → PairsWithin n (word_pairs as')
+words_within n [] h = tt
+words_within n (a ∷ as') h = add_word n a.name a.value (word_pairs as') h.0 (words_within n as' h.1)
+
+pub arguments_on : (n k : ℕ) (as' : List Argument) → n ≤ k → ArgumentsWithin n as' → ArgumentsWithin k as'
+arguments_on n k [] le h = tt
+arguments_on n k (a ∷ as') le h = (within_on n k a.value le h.0, arguments_on n k as' le h.1)
+
+argument_within : (n : ℕ) (vs : List Value) (i : ℕ) (v : Value) → AreWithin n vs → IsWithin n v → IsWithin n (argument_or vs i v)
+argument_within n vs i v h k = or_within n (slice_get vs i) v (get_within n vs i h) k
+
+none_safe : (n : ℕ) → Safe n IsWithin gives_none
+none_safe n = safe_gives n none tt
+
+-- ---- parts of rows
+
+given_safe : (p : Program) (n : ℕ) (o : Option Value) → OptionWithin n o → Safe n AreWithin (given_items p o)
+given_safe p n None h = safe_gives_all n [] tt
+given_safe p n (Some v) h = items_safe p n v h
+
+some_of_safe : (fuel n : ℕ) (a : Action Value) (sofar : List Value) → ((k : ℕ) → n ≤ k → Safe k IsWithin a) → AreWithin n sofar → Safe n AreWithin (some_of fuel a sofar)
+some_of_safe zero n a sofar h k = safe_takes n AreWithin (λ c. gives sofar) (λ c. safe_gives_all n sofar k)
+some_of_safe (suc fuel) n a sofar h k =
+    safe_takes n AreWithin _ (λ c. safe_if n AreWithin (is_even c) _ _
+    (safe_bind n IsWithin AreWithin a (λ v. some_of fuel a (sofar ++ v ∷ [])) (h n (omega arith)) (λ v j le w. some_of_safe fuel j a (sofar ++ v ∷ []) (λ i le'. h i (omega arith)) (are_append j sofar (v ∷ []) (are_on n j sofar le k) (w, tt))))
+    (safe_gives_all n sofar k))
+
+three_safe : (n : ℕ) (a : Action Value) → ((k : ℕ) → n ≤ k → Safe k IsWithin a) → Safe n AreWithin (three_of a)
+three_safe n a h =
+    safe_bind n IsWithin AreWithin a _ (h n (omega arith)) (λ u i le x. safe_bind i IsWithin AreWithin a _ (h i le) (λ v j le' y. safe_bind j IsWithin AreWithin a _ (h j (omega arith)) (λ w k le'' z.
+    safe_gives_all k (u ∷ v ∷ w ∷ []) (within_on j k u le'' (within_on i j u le' x), (within_on j k v le'' y, (z, tt))))))
+
+list_parts_safe : (p : Program) (n : ℕ) (receiver : Value) (vs : List Value) (ps : List Part) → AreWithin n vs → Safe n AreWithin (list_parts p receiver vs ps)
+list_parts_safe p n receiver vs (meaning.items i ∷ []) h = given_safe p n (slice_get vs i) (get_within n vs i h)
+list_parts_safe p n receiver vs (meaning.kind k ∷ []) h = safe_counts n AreWithin (λ fuel. some_of fuel (of_kind k) []) (λ fuel. some_of_safe fuel n (of_kind k) [] (λ j le. kind_safe j k) tt)
+list_parts_safe p n receiver vs (meaning.own_elements ∷ []) h = safe_looks n AreWithin (λ m. read_all p (contents_at m.heap receiver)) (λ m good le. read_all_safe p (size m) (contents_at m.heap receiver) (contents_at_within m receiver good))
+list_parts_safe p n receiver vs [] h = safe_gives_all n [] tt
+list_parts_safe p n receiver vs _ h = safe_gives_all n [] tt
+
+tuple_parts_safe : (p : Program) (n : ℕ) (vs : List Value) (ps : List Part) → AreWithin n vs → Safe n AreWithin (tuple_parts p vs ps)
+tuple_parts_safe p n vs (meaning.items i ∷ []) h = given_safe p n (slice_get vs i) (get_within n vs i h)
+tuple_parts_safe p n vs (meaning.kind k ∷ []) h = three_safe n (of_kind k) (λ j le. kind_safe j k)
+tuple_parts_safe p n vs [] h = safe_gives_all n [] tt
+tuple_parts_safe p n vs _ h = safe_gives_all n [] tt
+
+own_pairs_within : (m : Memory) (v : Value) → Good m → ContentPairsWithin (size m) (own_pairs m.heap v)
+own_pairs_within m (ref place) good = content_pairs_within (size m) (object_at m.heap place) (object_within m place good)
+own_pairs_within m none good = tt
+own_pairs_within m _ good = tt
+
+filled_safe : (p : Program) (n : ℕ) (d : Value) (o : Option Value) (qs : List (Value × Value)) → IsWithin n d → OptionWithin n o → PairsWithin n qs → Safe n IsWithin (filled_from p d o qs)
+filled_safe p n (ref place) None qs a b c = safe_then n Free IsWithin (add_pairs place qs) (gives (ref place)) (add_pairs_safe place n qs c) (λ k le. safe_gives k (ref place) (within_on n k (ref place) le a))
+filled_safe p n (ref place) (Some v) qs a b c =
+    safe_then n Free IsWithin (add_from p place v) (then_do (add_pairs place qs) (gives (ref place))) (add_from_safe p place n v b) (λ k le.
+    safe_then k Free IsWithin (add_pairs place qs) (gives (ref place)) (add_pairs_safe place k qs (pairs_on n k qs le c)) (λ j le'. safe_gives j (ref place) (within_on k j (ref place) le' (within_on n k (ref place) le a))))
+filled_safe p n none o qs a b c = safe_gives n none tt
+filled_safe p n d o qs a b c = safe_gives n d a
+
+fill_new : (p : Program) (site n : ℕ) (as' : List Argument) → ArgumentsWithin n as' → Safe n IsWithin (bind (allocate (object.dict site [])) (λ d. filled_from p d (slice_get (values as') 0) (word_pairs as')))
+fill_new p site n as' h =
+    safe_bind n IsWithin IsWithin (allocate (object.dict site [])) (λ d. filled_from p d (slice_get (values as') 0) (word_pairs as')) (safe_allocate n (object.dict site []) tt) (λ d k le w.
+    filled_safe p k d (slice_get (values as') 0) (word_pairs as') w (get_within k (values as') 0 (values_within k as' (arguments_on n k as' le h))) (words_within k as' (arguments_on n k as' le h)))
+
+new_dict_safe : (p : Program) (site n : ℕ) (receiver : Value) (as' : List Argument) (ps : List Part) → ArgumentsWithin n as' → Safe n IsWithin (new_dict p site receiver as' ps)
+new_dict_safe p site n receiver as' (meaning.own_keys ∷ []) h =
+    safe_looks n IsWithin (λ m. bind (read_pairs p (own_pairs m.heap receiver)) (λ qs. allocate (object.dict site qs))) (λ m good le.
+    safe_bind (size m) PairsWithin IsWithin (read_pairs p (own_pairs m.heap receiver)) (λ qs. allocate (object.dict site qs)) (read_pairs_safe p (size m) (own_pairs m.heap receiver) (own_pairs_within m receiver good)) (λ qs k le' w. safe_allocate k (object.dict site qs) w))
+new_dict_safe p site n receiver as' [] h = fill_new p site n as' h
+new_dict_safe p site n receiver as' _ h = fill_new p site n as' h
+
+one_or_error_safe : (n : ℕ) (o : Option Value) → OptionWithin n o → Safe n IsWithin (one_or_error o)
+one_or_error_safe n None h = safe_raise n IsWithin (codes "ValueError")
+one_or_error_safe n (Some v) h = safe_gives n v h
+
+option_gives : (n : ℕ) (o : Option Value) → OptionWithin n o → Safe n OptionWithin (gives o)
+option_gives n o h = record { keeps = λ m good le. option_on n (size m) o le h }
+
+one_value : (n : ℕ) (vs : List Value) → AreWithin n vs → Safe n OptionWithin (one_of vs)
+one_value n vs h = safe_bind n Free OptionWithin (pick (length vs)) (λ i. gives (slice_get vs i)) (safe_pick n (length vs)) (λ i k le w. option_gives k (slice_get vs i) (get_within k vs i (are_on n k vs le h)))
+
+some_value : (n : ℕ) (vs : List Value) → AreWithin n vs → Safe n IsWithin (bind (one_of vs) one_or_error)
+some_value n vs h = safe_bind n OptionWithin IsWithin (one_of vs) one_or_error (one_value n vs h) (λ o k le w. one_or_error_safe k o w)
+
+least_safe : (p : Program) (n : ℕ) (vs : List Value) → AreWithin n vs → Safe n IsWithin (least_or_most p vs)
+least_safe p n (v ∷ []) h = safe_bind n AreWithin IsWithin (items_of p v) (λ ws. bind (one_of ws) one_or_error) (items_safe p n v h.0) (λ ws k le w. some_value k ws w)
+least_safe p n [] h = some_value n [] h
+least_safe p n (v ∷ w ∷ ws) h = some_value n (v ∷ w ∷ ws) h
+
+tells_safe : (p : Program) (n : ℕ) (v k : Value) → Safe n IsWithin (tells_class p v k)
+tells_safe p n v k =
+    safe_looks n IsWithin (λ m. bind (decided (instance_test p m.heap v (class_at m.heap k))) (λ b. gives (truth b))) (λ m good le.
+    safe_bind (size m) Free IsWithin (decided (instance_test p m.heap v (class_at m.heap k))) (λ b. gives (truth b)) (decided_safe (size m) (instance_test p m.heap v (class_at m.heap k))) (λ b j le' w. safe_gives j (truth b) tt))
+
+view_within : (n site number : ℕ) (receiver : Option Value) (vs : List Value) → OptionWithin n receiver → AreWithin n vs → Safe n IsWithin (allocate (object.view site number receiver vs))
+view_within n site number receiver vs a b = safe_allocate n (object.view site number receiver vs) (a, b)
+
+outcome_safe : (p : Program) (number : ℕ) (x : Native) (receiver : Option Value) (as' : List Argument) (site n : ℕ) (o : Outcome) → OptionWithin n receiver → ArgumentsWithin n as' → Safe n IsWithin (outcome_value p number x receiver as' site o)
+outcome_safe p number x receiver as' site n (meaning.gives (meaning.kind k ∷ [])) a b = kind_safe n k
+outcome_safe p number x receiver as' site n (meaning.new_list ps) a b =
+    safe_bind n AreWithin IsWithin (list_parts p (unwrap_or receiver none) (values as') ps) (λ vs. allocate (object.list site vs)) (list_parts_safe p n (unwrap_or receiver none) (values as') ps (values_within n as' b)) (λ vs k le w. safe_allocate k (object.list site vs) w)
+outcome_safe p number x receiver as' site n (meaning.new_tuple ps) a b =
+    safe_bind n AreWithin IsWithin (tuple_parts p (values as') ps) (λ vs. allocate (object.tuple site object.parts vs)) (tuple_parts_safe p n (values as') ps (values_within n as' b)) (λ vs k le w. safe_allocate k (object.tuple site object.parts vs) w)
+outcome_safe p number x receiver as' site n (meaning.new_dict ks others) a b = new_dict_safe p site n (unwrap_or receiver none) as' ks b
+outcome_safe p number x receiver as' site n (meaning.view ps) a b = view_within n site number receiver (values as') a (values_within n as' b)
+outcome_safe p number x receiver as' site n (meaning.pair_view first second) a b = view_within n site number receiver (values as') a (values_within n as' b)
+outcome_safe p number x receiver as' site n meaning.least_or_most a b = least_safe p n (values as') (values_within n as' b)
+outcome_safe p number x receiver as' site n meaning.tests_class a b = tells_safe p n (argument_or (values as') 0 none) (argument_or (values as') 1 none)
+outcome_safe p number x receiver as' site n meaning.fresh_object a b = safe_allocate n (object.outside (term.class (codes "object"))) tt
+outcome_safe p number x receiver as' site n meaning.instance_of_it a b = safe_allocate n (object.outside (term.class x.name)) tt
+outcome_safe p number x receiver as' site n _ a b = safe_anything n
+
+-- ---- effects
+
+entering_safe : (p : Program) (n : ℕ) (vs : List Value) (q : Part) → AreWithin n vs → Safe n AreWithin (entering p vs q)
+entering_safe p n vs (meaning.argument i) h = safe_gives_all n (argument_or vs i none ∷ []) (argument_within n vs i none h tt, tt)
+entering_safe p n vs (meaning.items i) h = given_safe p n (slice_get vs i) (get_within n vs i h)
+entering_safe p n vs _ h = safe_gives_all n [] tt
+
+parts_added_safe : (place n : ℕ) (ws : List Value) (o : Object) → AreWithin n ws → ObjectWithin n o → Safe n Free (parts_added place ws o)
+parts_added_safe place n ws (object.list site vs) h k = safe_replace n place (object.list site (vs ++ ws)) (are_append n vs ws k h)
+parts_added_safe place n ws (object.dict site qs) h k = safe_done n
+parts_added_safe place n ws _ h k = safe_done n
+
+pub add_parts_safe : (place n : ℕ) (ws : List Value) → AreWithin n ws → Safe n Free (add_parts place ws)
+add_parts_safe place n ws h = safe_at n Free place (parts_added place ws) (λ o k le w. parts_added_safe place k ws o (are_on n k ws le h) w)
+
+enter_all_safe : (p : Program) (place n : ℕ) (vs : List Value) (es : List Effect) → AreWithin n vs → Safe n Free (enter_all p place vs es)
+enter_all_safe p place n vs [] h = safe_done n
+enter_all_safe p place n vs (e ∷ es) h =
+    safe_then n Free Free (bind (entering p vs e.part) (add_parts place)) (enter_all p place vs es)
+    (safe_bind n AreWithin Free (entering p vs e.part) (add_parts place) (entering_safe p n vs e.part h) (λ ws k le w. add_parts_safe place k ws w)) (λ k le. enter_all_safe p place k vs es (are_on n k vs le h))
+
+effects_on_safe : (p : Program) (place n : ℕ) (vs : List Value) (es : List Effect) (o : Object) → AreWithin n vs → Safe n Free (effects_on p place vs es o)
+effects_on_safe p place n vs es (object.list site ws) h = enter_all_safe p place n vs es h
+effects_on_safe p place n vs es (object.dict site qs) h = safe_done n
+effects_on_safe p place n vs es _ h = safe_done n
+
+effects_safe : (p : Program) (n : ℕ) (receiver : Option Value) (vs : List Value) (es : List Effect) → AreWithin n vs → Safe n Free (do_effects p receiver vs es)
+effects_safe p n (Some (ref place)) vs es h = safe_at n Free place (effects_on p place vs es) (λ o k le w. effects_on_safe p place k vs es o (are_on n k vs le h))
+effects_safe p n None vs es h = safe_done n
+effects_safe p n _ vs es h = safe_done n
+
+-- ---- single parts
+
+take_within : (n i : ℕ) (vs : List Value) → AreWithin n vs → AreWithin n (take i vs)
+take_within n zero [] h = tt
+take_within n zero (v ∷ vs) h = tt
+take_within n (suc i) [] h = tt
+take_within n (suc i) (v ∷ vs) h = (h.0, take_within n i vs h.1)
+
+drop_within : (n i : ℕ) (vs : List Value) → AreWithin n vs → AreWithin n (drop i vs)
+drop_within n zero [] h = tt
+drop_within n zero (v ∷ vs) h = h
+drop_within n (suc i) [] h = tt
+drop_within n (suc i) (v ∷ vs) h = drop_within n i vs h.1
+
+take_pairs : (n i : ℕ) (qs : List (Value × Value)) → PairsWithin n qs → PairsWithin n (take i qs)
+take_pairs n zero [] h = tt
+take_pairs n zero (q ∷ qs) h = tt
+take_pairs n (suc i) [] h = tt
+take_pairs n (suc i) (q ∷ qs) h = (h.0, h.1, take_pairs n i qs h.2)
+
+drop_pairs : (n i : ℕ) (qs : List (Value × Value)) → PairsWithin n qs → PairsWithin n (drop i qs)
+drop_pairs n zero [] h = tt
+drop_pairs n zero (q ∷ qs) h = h
+drop_pairs n (suc i) [] h = tt
+drop_pairs n (suc i) (q ∷ qs) h = drop_pairs n i qs h.2
+
+insert_within : (n : ℕ) (vs : List Value) (i : ℕ) (v : Value) → AreWithin n vs → IsWithin n v → AreWithin n (insert vs i v)
+insert_within n vs i v h k = are_append n (take i vs) (v ∷ drop i vs) (take_within n i vs h) (k, drop_within n i vs h)
+
+remove_within : (n : ℕ) (vs : List Value) (i : ℕ) → AreWithin n vs → AreWithin n (remove vs i)
+remove_within n vs i h = are_append n (take i vs) (drop (suc i) vs) (take_within n i vs h) (drop_within n (suc i) vs h)
+
+remove_pairs : (n : ℕ) (qs : List (Value × Value)) (i : ℕ) → PairsWithin n qs → PairsWithin n (remove qs i)
+remove_pairs n qs i h = pairs_append n (take i qs) (drop (suc i) qs) (take_pairs n i qs h) (drop_pairs n (suc i) qs h)
+
+inserts_safe : (place n : ℕ) (v : Value) (o : Object) → IsWithin n v → ObjectWithin n o → Safe n IsWithin (inserts place v o)
+inserts_safe place n v (object.list site vs) a h =
+    safe_bind n Free IsWithin (pick (suc (length vs))) (λ i. then_do (replace place (object.list site (insert vs i v))) gives_none) (safe_pick n (suc (length vs))) (λ i k le w.
+    safe_then k Free IsWithin (replace place (object.list site (insert vs i v))) gives_none (safe_replace k place (object.list site (insert vs i v)) (insert_within k vs i v (are_on n k vs le h) (within_on n k v le a))) (λ j le'. none_safe j))
+inserts_safe place n v (object.dict site qs) a h = none_safe n
+inserts_safe place n v _ a h = none_safe n
+
+take_safe : (place site n : ℕ) (vs : List Value) (i : ℕ) → AreWithin n vs → Safe n Free (take_part place site vs i)
+take_safe place site n vs i h = safe_replace n place (object.list site (remove vs i)) (remove_within n vs i h)
+
+pop_one : (p : Program) (n : ℕ) (o : Object) → ObjectWithin n o → Safe n IsWithin (bind (one_of (contents o)) (λ c. elim c [ None ↦ raise_builtin (codes "IndexError") | Some one ↦ read p one ]))
+pop_one p n o h = part_safe p n (contents o) (contents_within n o h)
+
+pops_safe : (p : Program) (place n : ℕ) (o : Object) → ObjectWithin n o → Safe n IsWithin (pops p place o)
+pops_safe p place n (object.list site []) h = safe_raise n IsWithin (codes "IndexError")
+pops_safe p place n (object.list site (v ∷ vs)) h =
+    safe_bind n Free IsWithin (pick (length (v ∷ vs))) (λ i. then_do (take_part place site (v ∷ vs) i) (gives (unwrap_or (slice_get (v ∷ vs) i) v))) (safe_pick n (length (v ∷ vs))) (λ i k le w.
+    safe_then k Free IsWithin (take_part place site (v ∷ vs) i) (gives (unwrap_or (slice_get (v ∷ vs) i) v)) (take_safe place site k (v ∷ vs) i (are_on n k (v ∷ vs) le h)) (λ j le'.
+    safe_on k j IsWithin (gives (unwrap_or (slice_get (v ∷ vs) i) v)) le' (safe_gives k (unwrap_or (slice_get (v ∷ vs) i) v) (or_within k (slice_get (v ∷ vs) i) v (get_within k (v ∷ vs) i (are_on n k (v ∷ vs) le h)) (within_on n k v le h.0)))))
+pops_safe p place n o h = pop_one p n o h
+
+removes_safe : (place n : ℕ) (o : Object) → ObjectWithin n o → Safe n IsWithin (removes place o)
+removes_safe place n (object.list site []) h = safe_raise n IsWithin (codes "ValueError")
+removes_safe place n (object.list site (v ∷ vs)) h =
+    safe_bind n Free IsWithin (pick (length (v ∷ vs))) (λ i. then_do (take_part place site (v ∷ vs) i) gives_none) (safe_pick n (length (v ∷ vs))) (λ i k le w.
+    safe_then k Free IsWithin (take_part place site (v ∷ vs) i) gives_none (take_safe place site k (v ∷ vs) i (are_on n k (v ∷ vs) le h)) (λ j le'. none_safe j))
+removes_safe place n _ h = none_safe n
+
+clears_safe : (place n : ℕ) (o : Object) → Safe n IsWithin (clears place o)
+clears_safe place n (object.list site vs) = safe_then n Free IsWithin (replace place (object.list site [])) gives_none (safe_replace n place (object.list site []) tt) (λ k le. none_safe k)
+clears_safe place n (object.dict site qs) = safe_then n Free IsWithin (replace place (object.dict site [])) gives_none (safe_replace n place (object.dict site []) tt) (λ k le. none_safe k)
+clears_safe place n _ = none_safe n
+
+-- ---- single pairs
+
+pairs_later : (n k : ℕ) (o : Object) → n ≤ k → ObjectWithin n o → ContentPairsWithin k (pairs o)
+pairs_later n k o le h = content_pairs_within k o (object_on n k o le h)
+
+-- a pair that a choice picks, or what is done without one
+on_pair : (p : Program) (n : ℕ) (o : Option Pair) (f : Pair → Action Value) (a : Action Value) → OnePairWithin n o → ((q : Pair) → ContentWithin n q.1 → Safe n IsWithin (f q)) → Safe n IsWithin a → Safe n IsWithin (elim o [ Some q ↦ f q | None ↦ a ])
+on_pair p n None f a h g k = k
+on_pair p n (Some q) f a h g k = g q h.1
+
+gets_safe : (p : Program) (n : ℕ) (vs : List Value) (o : Object) → AreWithin n vs → ObjectWithin n o → Safe n IsWithin (gets p vs o)
+gets_safe p n vs o a h =
+    safe_bind n Free IsWithin (some_pair o) (λ i. elim (slice_get (pairs o) i) [ Some q ↦ read p q.1 | None ↦ gives (argument_or vs 1 none) ]) (safe_pick n (suc (length (pairs o)))) (λ i k le w.
+    on_pair p k (slice_get (pairs o) i) (λ q. read p q.1) (gives (argument_or vs 1 none)) (one_pair_within k (pairs o) i (pairs_later n k o le h)) (λ q x. read_safe p k q.1 x) (safe_gives k (argument_or vs 1 none) (argument_within k vs 1 none (are_on n k vs le a) tt)))
+
+default_safe : (p : Program) (place n : ℕ) (vs : List Value) (o : Object) → AreWithin n vs → ObjectWithin n o → Safe n IsWithin (sets_default p place vs o)
+default_safe p place n vs o a h =
+    safe_bind n Free IsWithin (some_pair o) (λ i. elim (slice_get (pairs o) i) [ Some q ↦ read p q.1 | None ↦ then_do (add_pairs place ((argument_or vs 0 none, argument_or vs 1 none) ∷ [])) (gives (argument_or vs 1 none)) ]) (safe_pick n (suc (length (pairs o)))) (λ i k le w.
+    on_pair p k (slice_get (pairs o) i) (λ q. read p q.1) (then_do (add_pairs place ((argument_or vs 0 none, argument_or vs 1 none) ∷ [])) (gives (argument_or vs 1 none))) (one_pair_within k (pairs o) i (pairs_later n k o le h)) (λ q x. read_safe p k q.1 x)
+    (safe_then k Free IsWithin (add_pairs place ((argument_or vs 0 none, argument_or vs 1 none) ∷ [])) (gives (argument_or vs 1 none)) (add_pairs_safe place k ((argument_or vs 0 none, argument_or vs 1 none) ∷ []) (argument_within k vs 0 none (are_on n k vs le a) tt, argument_within k vs 1 none (are_on n k vs le a) tt, tt))
+    (λ j le'. safe_gives j (argument_or vs 1 none) (argument_within j vs 1 none (are_on k j vs le' (are_on n k vs le a)) tt))))
+
+pair_taken_safe : (place n i : ℕ) (o : Object) → ObjectWithin n o → Safe n Free (pair_taken place i o)
+pair_taken_safe place n i (object.dict site qs) h = safe_replace n place (object.dict site (remove qs i)) (remove_pairs n qs i h)
+pair_taken_safe place n i (object.list site vs) h = safe_done n
+pair_taken_safe place n i _ h = safe_done n
+
+given_or_safe : (n : ℕ) (o : Option Value) → OptionWithin n o → Safe n IsWithin (given_or_error o)
+given_or_safe n None h = safe_raise n IsWithin (codes "KeyError")
+given_or_safe n (Some v) h = safe_gives n v h
+
+pops_pair_safe : (p : Program) (place n : ℕ) (vs : List Value) (o : Object) → AreWithin n vs → ObjectWithin n o → Safe n IsWithin (pops_pair p place vs o)
+pops_pair_safe p place n vs o a h =
+    safe_bind n Free IsWithin (some_pair o) (λ i. elim (slice_get (pairs o) i) [ Some q ↦ then_do (pair_taken place i o) (read p q.1) | None ↦ given_or_error (slice_get vs 1) ]) (safe_pick n (suc (length (pairs o)))) (λ i k le w.
+    on_pair p k (slice_get (pairs o) i) (λ q. then_do (pair_taken place i o) (read p q.1)) (given_or_error (slice_get vs 1)) (one_pair_within k (pairs o) i (pairs_later n k o le h))
+    (λ q x. safe_then k Free IsWithin (pair_taken place i o) (read p q.1) (pair_taken_safe place k i o (object_on n k o le h)) (λ j le'. safe_on k j IsWithin (read p q.1) le' (read_safe p k q.1 x)))
+    (given_or_safe k (slice_get vs 1) (get_within k vs 1 (are_on n k vs le a))))
+
+updates_safe : (p : Program) (place n : ℕ) (vs : List Value) (o : Object) → AreWithin n vs → Safe n IsWithin (updates p place vs o)
+updates_safe p place n vs (object.dict site qs) a = safe_then n Free IsWithin (add_from p place (argument_or vs 0 none)) gives_none (add_from_safe p place n (argument_or vs 0 none) (argument_within n vs 0 none a tt)) (λ k le. none_safe k)
+updates_safe p place n vs (object.list site ws) a = none_safe n
+updates_safe p place n vs _ a = none_safe n
+
+-- ---- calls of natives
+
+by_row_safe : (p : Program) (number : ℕ) (x : Native) (receiver : Option Value) (as' : List Argument) (site n : ℕ) → OptionWithin n receiver → ArgumentsWithin n as' → Safe n IsWithin (do_by_row p number x receiver as' site)
+by_row_safe p number x receiver as' site n a b =
+    safe_then n Free IsWithin (do_effects p receiver (values as') x.effects) (outcome_value p number x receiver as' site x.outcome) (effects_safe p n receiver (values as') x.effects (values_within n as' b)) (λ k le.
+    outcome_safe p number x receiver as' site k x.outcome (option_on n k receiver le a) (arguments_on n k as' le b))
+
+deed_safe : (p : Program) (number : ℕ) (x : Native) (place : ℕ) (as' : List Argument) (site n : ℕ) (o : Object) (d : Deed) → IsWithin n (ref place) → ArgumentsWithin n as' → ObjectWithin n o → Safe n IsWithin (do_deed p number x place as' site o d)
+deed_safe p number x place as' site n o by_its_row a b h = by_row_safe p number x (Some (ref place)) as' site n a b
+deed_safe p number x place as' site n o insert_deed a b h = inserts_safe place n (argument_or (values as') 1 none) o (argument_within n (values as') 1 none (values_within n as' b) tt) h
+deed_safe p number x place as' site n o pop_deed a b h = pops_safe p place n o h
+deed_safe p number x place as' site n o remove_deed a b h = removes_safe place n o h
+deed_safe p number x place as' site n o clear_deed a b h = clears_safe place n o
+deed_safe p number x place as' site n o get_deed a b h = gets_safe p n (values as') o (values_within n as' b) h
+deed_safe p number x place as' site n o pop_pair_deed a b h = pops_pair_safe p place n (values as') o (values_within n as' b) h
+deed_safe p number x place as' site n o default_deed a b h = default_safe p place n (values as') o (values_within n as' b) h
+deed_safe p number x place as' site n o update_deed a b h = updates_safe p place n (values as') o (values_within n as' b)
+
+native_safe : (p : Program) (number : ℕ) (x : Native) (receiver : Option Value) (as' : List Argument) (site n : ℕ) → OptionWithin n receiver → ArgumentsWithin n as' → Safe n IsWithin (do_native p number x receiver as' site)
+native_safe p number x (Some (ref place)) as' site n a b =
+    safe_at n IsWithin place (λ o. do_deed p number x place as' site o (deed_of o x.name)) (λ o k le w. deed_safe p number x place as' site k o (deed_of o x.name) (within_on n k (ref place) le a) (arguments_on n k as' le b) w)
+native_safe p number x None as' site n a b = by_row_safe p number x None as' site n a b
+native_safe p number x (Some v) as' site n a b = by_row_safe p number x (Some v) as' site n a b
+
+fault_or : (n line : ℕ) (o : Option FaultKind) (a : Action Value) → Safe n IsWithin a → Safe n IsWithin (elim o [ Some f ↦ fails line f | None ↦ a ])
+fault_or n line None a h = h
+fault_or n line (Some f) a h = safe_fails n IsWithin line f
+
+pub call_native_safe : (p : Program) (number : ℕ) (receiver : Option Value) (as' : List Argument) (site line n : ℕ) → OptionWithin n receiver → ArgumentsWithin n as' → Safe n IsWithin (call_native p number receiver as' site line)
+call_native_safe p number receiver as' site line n a b =
+    safe_option n IsWithin (slice_get natives number) (λ x. elim (native_fault x.arguments (call_by_texts p as')) [ Some f ↦ fails line f | None ↦ do_native p number x receiver as' site ]) anything
+    (λ x. fault_or n line (native_fault x.arguments (call_by_texts p as')) (do_native p number x receiver as' site) (native_safe p number x receiver as' site n a b)) (safe_anything n)
+
+-- ---- names
+
+found_or_safe : (error : List ℕ) (n : ℕ) (o : Option Value) → OptionWithin n o → Safe n IsWithin (found_or error o)
+found_or_safe error n None h = safe_raise n IsWithin error
+found_or_safe error n (Some v) h = safe_gives n v h
+
+name_sort : (n : ℕ) (s : NativeSort) (a b : Action Value) → Safe n IsWithin a → Safe n IsWithin b → Safe n IsWithin (elim s [ sort.Value ↦ a | _ ↦ b ])
+name_sort n sort.Value a b h k = h
+name_sort n sort.Function a b h k = k
+name_sort n _ a b h k = k
+
+native_value_safe : (n number : ℕ) (o : Option Native) → Safe n IsWithin (native_value number o)
+native_value_safe n number None = safe_anything n
+native_value_safe n number (Some x) = name_sort n x.sort fresh_text (allocate (object.foreign (builtin number))) (text_safe n) (safe_allocate n (object.foreign (builtin number)) tt)
+
+pub builtin_value_safe : (n : ℕ) (name : List ℕ) → Safe n IsWithin (builtin_value name)
+builtin_value_safe n name =
+    safe_option n IsWithin (function_number name) (λ i. if bytes_eq name (codes "base_init") then anything else native_value i (slice_get natives i)) anything
+    (λ i. safe_if n IsWithin (bytes_eq name (codes "base_init")) anything (native_value i (slice_get natives i)) (safe_anything n) (native_value_safe n i (slice_get natives i))) (safe_anything n)
+
+global_safe : (p : Program) (m : Memory) (name : ℕ) → Good m → Safe (size m) IsWithin (global_value p m name)
+global_safe p m name good =
+    safe_if (size m) IsWithin (is_bound p name) (found_or (codes "NameError") (entry m.globals name)) (builtin_value (text_at p name)) (found_or_safe (codes "NameError") (size m) (entry m.globals name) (entry_within (size m) m.globals name good.globals)) (builtin_value_safe (size m) (text_at p name))
+
+in_frame_safe : (p : Program) (m : Memory) (name : ℕ) (o : Option Frame) → Good m → FrameWithin (size m) o → Safe (size m) IsWithin (value_in_frame p m name o)
+in_frame_safe p m name None good h = global_safe p m name good
+in_frame_safe p m name (Some f) good h =
+    safe_if (size m) IsWithin (is_local p f.function name) (found_or (codes "UnboundLocalError") (entry f.locals name)) (global_value p m name) (found_or_safe (codes "UnboundLocalError") (size m) (entry f.locals name) (entry_within (size m) f.locals name h)) (global_safe p m name good)
+
+pub load_safe : (p : Program) (n name : ℕ) → Safe n IsWithin (load p name)
+load_safe p n name =
+    safe_bind n Free IsWithin may_raise (λ x. looks (λ m. value_in_frame p m name m.frame)) (safe_may n) (λ x k le w. safe_looks k IsWithin (λ m. value_in_frame p m name m.frame) (λ m good le'. in_frame_safe p m name m.frame good good.frame))
+
+-- a change of names, where the entries that it gives are within the heap
+pub changed_good : (p : Program) (name : ℕ) (f : Entries → Entries) (m : Memory) → Good m → ((es : Entries) → EntriesWithin (size m) es → EntriesWithin (size m) (f es)) → (o : Option Frame) → FrameWithin (size m) o →
+    (size m ≤ size (changed_in_frame p name f o m)) × Good (changed_in_frame p name f o m)
+changed_good p name f m good h None w = (omega arith, record { heap = good.heap; globals = h m.globals good.globals; frame = good.frame; handled = good.handled })
+changed_good p name f m good h (Some fr) w = local_or (is_local p fr.function name)
+  where
+    local_or : (b : Bool) → (size m ≤ size (if b then with_locals f fr m else with_globals f m)) × Good (if b then with_locals f fr m else with_globals f m)
+    local_or true = (omega arith, record { heap = good.heap; globals = good.globals; frame = h fr.locals w; handled = good.handled })
+    local_or false = (omega arith, record { heap = good.heap; globals = h m.globals good.globals; frame = good.frame; handled = good.handled })
+
+pub store_safe : (p : Program) (n name : ℕ) (v : Value) → IsWithin n v → Safe n Free (store p name v)
+store_safe p n name v a = record {
+  keeps = λ m good le.
+      let c : (size m ≤ size (bound p name v m)) × Good (bound p name v m) = changed_good p name (λ es. with_entry es name v) m good (λ es h. with_entry_within (size m) es name v h (within_on n (size m) v le a)) m.frame good.frame in
+      (c.0, c.1, tt);
+}

@@ -1,0 +1,311 @@
+-- Calls keep values within the heap, and so does every run.
+use Rattle.std.proofs.Common.{ℕ, zero, suc, ◌+◌, ◌≤◌, ◌<◌, Bool, true, false, ◌&&◌, List, [], ◌∷◌, length, Option, Some, None, slice_get, unwrap_or, arith}
+use Rattle.std.specs.Prelude.{codes, is_some, nat_eq}
+use Rattle.std.specs.List.{list_any}
+use Rattle.type_terms.specs.Terms as term
+use Rattle.py_tree.specs.declared.literal.Literal.{Literal}
+use Rattle.py_tree.specs.Tree.{Param}
+use Rattle.py_meaning.specs.Values.{Value, none, ref, Entries, entry, literal_value}
+use Rattle.py_meaning.specs.Objects as object
+use Rattle.py_meaning.specs.Objects.{Object, Foreign, builtin, stub_fun, stub_class, stub_method, object_at, is_unfollowed}
+use Rattle.py_meaning.specs.Events.{FaultKind, not_callable, returned, held}
+use Rattle.py_meaning.specs.Programs.{Program, FunRow, program, fun_at, init_of, exception_base, printed}
+use Rattle.py_meaning.specs.StubItems.{stub_class_at, stub_at, dotted, fun_in, bases, method_among, read_type}
+use Rattle.py_meaning.specs.Fresh.{fresh}
+use Rattle.py_meaning.specs.Matching.{Source, receiver, argument, default, Matched, matched, mismatch, native_fault}
+use Rattle.py_meaning.specs.Natives.{call_by_texts}
+use Rattle.py_meaning.specs.Expressions.{value_of_flow}
+use Rattle.py_meaning.specs.Targets.{put}
+use Rattle.py_meaning.specs.Statements.{exec_all, run_while, run_for, once_more}
+use Rattle.py_meaning.specs.Calls.{default_value, argument_value, source_value, parameters_bound, with_frame, in_frame, told_return, enter, enter_matched, match_row, call_function, start_instance, instance_matched, plain_arguments, make_plain, make_with, make_instance, match_stub, given_or_fault, call_stub_fun, call_stub_class, call_stub_method, call_foreign, call_object, call_any, outside_value, outside_values, outside_locals, enter_from_outside, finds_at, receivers_if, receivers, method_from_outside, function_from_outside, instance_from_outside, class_from_outside, call_from_outside, returning, perform}
+use Rattle.py_meaning.specs.Actions.{Frame, Memory, Argument, Flow, returns, OutsideCall, calls_function, calls_class, Request, call, while_turn, for_turn, outside_call, Outcome, came, threw, Action, gives, raises, takes, counts, turn, looks, becomes, tells, bind, then_do, changes, afterwards, allocate, anything, pick, one_of, fails, done}
+use Rattle.py_meaning.specs.Runs.{State, Answer, gave, raised, stopped, with_memory, with_event, with_choices, with_turns, after_turn, take_choice, carry_out, begin_turn, turns_within, no_memory, start, tell_if, tell_names, module_action, can_be_called, call_if, make_calls, run_of, answer, run}
+use Rattle.py_meaning.specs.References.{IsWithin, AreWithin, EntriesWithin, OptionWithin, ObjectWithin, ObjectsWithin, ReferencesPointIn}
+use Rattle.py_meaning.proofs.Kept.{within_on, are_on, option_on, entries_on, FrameWithin, frame_on, size, Good, Keeps, Safe, Free, ArgumentsWithin, RequestWithin, FlowWithin, OutcomeWithin, safe_bind, safe_then, safe_looks, safe_if, safe_allocate, safe_done, safe_at, safe_pick, safe_anything, safe_fails, safe_tells, safe_option, safe_gives, get_within}
+use Rattle.py_meaning.proofs.KeptValues.{fresh_safe}
+use Rattle.py_meaning.proofs.KeptNatives.{arguments_on, call_native_safe}
+use Rattle.py_meaning.proofs.KeptStatements.{safe_turn, safe_changes, safe_afterwards, flow_value, literal_within, may_then, put_safe, gives_flow, once_more_safe, while_safe, for_safe, exec_all_safe}
+
+-- ---- functions of the module
+
+default_of : (n : ℕ) (o : Option Literal) → IsWithin n (elim o [ None ↦ none | Some l ↦ literal_value l ])
+default_of n None = tt
+default_of n (Some l) = literal_within n l
+
+argument_of : (n : ℕ) (as' : List Argument) (i : ℕ) → ArgumentsWithin n as' → IsWithin n (argument_value as' i)
+argument_of n [] i h = tt
+argument_of n (a ∷ as') zero h = h.0
+argument_of n (a ∷ as') (suc i) h = argument_of n as' i h.1
+
+source_within : (n : ℕ) (v : Value) (as' : List Argument) (q : Param) (s : Source) → IsWithin n v → ArgumentsWithin n as' → IsWithin n (source_value v as' q s)
+source_within n v as' q receiver a b = a
+source_within n v as' q (argument i) a b = argument_of n as' i b
+source_within n v as' q default a b = default_of n q.default
+
+bound_within : (n : ℕ) (v : Value) (as' : List Argument) (qs : List Param) (ss : List Source) → IsWithin n v → ArgumentsWithin n as' → EntriesWithin n (parameters_bound v as' qs ss)
+bound_within n v as' [] [] a b = tt
+bound_within n v as' [] (s ∷ ss) a b = tt
+bound_within n v as' (q ∷ qs) [] a b = tt
+bound_within n v as' (q ∷ qs) (s ∷ ss) a b = (source_within n v as' q s a b, bound_within n v as' qs ss a b)
+
+frame_good : (n : ℕ) (o : Option Frame) (m : Memory) → Good m → n ≤ size m → FrameWithin n o → (size m ≤ size (with_frame o m)) × Good (with_frame o m)
+frame_good n o m good le h = (omega arith, record { heap = good.heap; globals = good.globals; frame = frame_on n (size m) o le h; handled = good.handled })
+
+in_frame_safe : (n : ℕ) (f : Frame) (a : Action Value) → EntriesWithin n f.locals → ((k : ℕ) → n ≤ k → Safe k IsWithin a) → Safe n IsWithin (in_frame f a)
+in_frame_safe n f a w h =
+    safe_looks n IsWithin (λ m. changes (with_frame (Some f)) (afterwards a (with_frame m.frame))) (λ m good le.
+    safe_changes (size m) IsWithin (with_frame (Some f)) (afterwards a (with_frame m.frame)) (λ u gu le'. frame_good n (Some f) u gu (omega arith) w)
+    (safe_afterwards (size m) IsWithin a (with_frame m.frame) safe_gives (λ u gu le'. frame_good (size m) m.frame u gu le' good.frame) (h (size m) le)))
+
+told_safe : (n f : ℕ) (flow : Flow) → FlowWithin n flow → Safe n IsWithin (told_return f flow)
+told_safe n f flow h = safe_tells n IsWithin (returned f (value_of_flow flow)) (gives (value_of_flow flow)) (safe_gives n (value_of_flow flow) (flow_value n flow h))
+
+enter_safe : (p : Program) (f n : ℕ) (row : FunRow) (locals : Entries) → EntriesWithin n locals → Safe n IsWithin (enter p f row locals)
+enter_safe p f n row locals h =
+    in_frame_safe n (record { function = f; locals = locals }) (bind (exec_all p row.body) (told_return f)) h (λ k le.
+    safe_bind k FlowWithin IsWithin (exec_all p row.body) (told_return f) (exec_all_safe p row.body k) (λ flow j le' w. told_safe j f flow w))
+
+enter_matched_safe : (p : Program) (f line n : ℕ) (row : FunRow) (v : Value) (as' : List Argument) (x : Matched) → IsWithin n v → ArgumentsWithin n as' → Safe n IsWithin (enter_matched p f line row v as' x)
+enter_matched_safe p f line n row v as' (mismatch kind) a b = safe_fails n IsWithin line kind
+enter_matched_safe p f line n row v as' (matched ss) a b = enter_safe p f n row (parameters_bound v as' row.params ss) (bound_within n v as' row.params ss a b)
+
+or_none : (n : ℕ) (o : Option Value) → OptionWithin n o → IsWithin n (unwrap_or o none)
+or_none n None h = tt
+or_none n (Some v) h = h
+
+call_function_safe : (p : Program) (f n : ℕ) (o : Option Value) (as' : List Argument) (line : ℕ) → OptionWithin n o → ArgumentsWithin n as' → Safe n IsWithin (call_function p f o as' line)
+call_function_safe p f n o as' line a b =
+    safe_option n IsWithin (fun_at p f) (λ row. enter_matched p f line row (unwrap_or o none) as' (match_row row (is_some o) as')) anything
+    (λ row. enter_matched_safe p f line n row (unwrap_or o none) as' (match_row row (is_some o) as') (or_none n o a) b) (safe_anything n)
+
+-- ---- classes of the module
+
+start_safe : (p : Program) (f n : ℕ) (row : FunRow) (as' : List Argument) (ss : List Source) (v : Value) → IsWithin n v → ArgumentsWithin n as' → Safe n IsWithin (start_instance p f row as' ss v)
+start_safe p f n row as' ss v a b =
+    safe_then n IsWithin IsWithin (enter p f row (parameters_bound v as' row.params ss)) (gives v) (enter_safe p f n row (parameters_bound v as' row.params ss) (bound_within n v as' row.params ss a b)) (λ k le. safe_gives k v (within_on n k v le a))
+
+instance_safe : (p : Program) (c f line n : ℕ) (row : FunRow) (as' : List Argument) (x : Matched) → ArgumentsWithin n as' → Safe n IsWithin (instance_matched p c f line row as' x)
+instance_safe p c f line n row as' (mismatch kind) b = safe_fails n IsWithin line kind
+instance_safe p c f line n row as' (matched ss) b =
+    safe_bind n IsWithin IsWithin (allocate (object.instance c [])) (start_instance p f row as' ss) (safe_allocate n (object.instance c []) tt) (λ v k le w. start_safe p f k row as' ss v w (arguments_on n k as' le b))
+
+fault_or : (n line : ℕ) (o : Option FaultKind) (a : Action Value) → Safe n IsWithin a → Safe n IsWithin (elim o [ Some kind ↦ fails line kind | None ↦ a ])
+fault_or n line None a h = h
+fault_or n line (Some kind) a h = safe_fails n IsWithin line kind
+
+make_plain_safe : (p : Program) (c n : ℕ) (as' : List Argument) (line : ℕ) → Safe n IsWithin (make_plain p c as' line)
+make_plain_safe p c n as' line = fault_or n line (native_fault (plain_arguments (exception_base p c)) (call_by_texts p as')) (allocate (object.instance c [])) (safe_allocate n (object.instance c []) tt)
+
+make_with_safe : (p : Program) (c f n : ℕ) (as' : List Argument) (line : ℕ) → ArgumentsWithin n as' → Safe n IsWithin (make_with p c f as' line)
+make_with_safe p c f n as' line b =
+    safe_option n IsWithin (fun_at p f) (λ row. instance_matched p c f line row as' (match_row row true as')) anything (λ row. instance_safe p c f line n row as' (match_row row true as') b) (safe_anything n)
+
+make_safe : (p : Program) (c n : ℕ) (as' : List Argument) (line : ℕ) → ArgumentsWithin n as' → Safe n IsWithin (make_instance p c as' line)
+make_safe p c n as' line b = safe_option n IsWithin (init_of p c) (λ f. make_with p c f as' line) (make_plain p c as' line) (λ f. make_with_safe p c f n as' line b) (make_plain_safe p c n as' line)
+
+-- ---- stubs
+
+given_safe : (n line : ℕ) (x : Matched) (a : Action Value) → Safe n IsWithin a → Safe n IsWithin (given_or_fault line x a)
+given_safe n line (mismatch kind) a h = safe_fails n IsWithin line kind
+given_safe n line (matched ss) a h = h
+
+stub_fun_safe : (p : Program) (home name : List ℕ) (n : ℕ) (as' : List Argument) (line : ℕ) → Safe n IsWithin (call_stub_fun p home name as' line)
+stub_fun_safe p home name n as' line =
+    safe_option n IsWithin (stub_at p home) (λ s. elim (fun_in s.funs name) [ None ↦ anything | Some f ↦ given_or_fault line (match_stub p f false as') (fresh p (read_type s home f.answer)) ]) anything
+    (λ s. safe_option n IsWithin (fun_in s.funs name) (λ f. given_or_fault line (match_stub p f false as') (fresh p (read_type s home f.answer))) anything
+    (λ f. given_safe n line (match_stub p f false as') (fresh p (read_type s home f.answer)) (fresh_safe p (read_type s home f.answer) n)) (safe_anything n)) (safe_anything n)
+
+new_instance : (n : ℕ) (name : List ℕ) → Safe n IsWithin (allocate (object.outside (term.class name)))
+new_instance n name = safe_allocate n (object.outside (term.class name)) tt
+
+stub_class_safe : (p : Program) (home name : List ℕ) (n : ℕ) (as' : List Argument) (line : ℕ) → Safe n IsWithin (call_stub_class p home name as' line)
+stub_class_safe p home name n as' line =
+    safe_option n IsWithin (stub_class_at p (dotted home name)) (λ k. elim (method_among (bases k) (codes "__init__")) [ None ↦ allocate (object.outside (term.class (dotted home name))) | Some f ↦ given_or_fault line (match_stub p f.1 true as') (allocate (object.outside (term.class (dotted home name)))) ]) anything
+    (λ k. safe_option n IsWithin (method_among (bases k) (codes "__init__")) (λ f. given_or_fault line (match_stub p f.1 true as') (allocate (object.outside (term.class (dotted home name))))) (allocate (object.outside (term.class (dotted home name))))
+    (λ f. given_safe n line (match_stub p f.1 true as') (allocate (object.outside (term.class (dotted home name)))) (new_instance n (dotted home name))) (new_instance n (dotted home name))) (safe_anything n)
+
+stub_method_safe : (p : Program) (home owner name : List ℕ) (n : ℕ) (as' : List Argument) (line : ℕ) → Safe n IsWithin (call_stub_method p home owner name as' line)
+stub_method_safe p home owner name n as' line =
+    safe_option n IsWithin (stub_class_at p (dotted home owner)) (λ k. elim (fun_in k.class.funs name) [ None ↦ anything | Some f ↦ given_or_fault line (match_stub p f true as') (fresh p (read_type k.stub home f.answer)) ]) anything
+    (λ k. safe_option n IsWithin (fun_in k.class.funs name) (λ f. given_or_fault line (match_stub p f true as') (fresh p (read_type k.stub home f.answer))) anything
+    (λ f. given_safe n line (match_stub p f true as') (fresh p (read_type k.stub home f.answer)) (fresh_safe p (read_type k.stub home f.answer) n)) (safe_anything n)) (safe_anything n)
+
+foreign_safe : (p : Program) (o : Option Value) (n : ℕ) (as' : List Argument) (site line : ℕ) (f : Foreign) → OptionWithin n o → ArgumentsWithin n as' → Safe n IsWithin (call_foreign p o as' site line f)
+foreign_safe p o n as' site line (builtin i) a b = call_native_safe p i o as' site line n a b
+foreign_safe p o n as' site line (stub_fun home name) a b = stub_fun_safe p home name n as' line
+foreign_safe p o n as' site line (stub_class home name) a b = stub_class_safe p home name n as' line
+foreign_safe p o n as' site line (stub_method home owner name) a b = stub_method_safe p home owner name n as' line
+
+-- ---- anything that is called
+
+call_object_safe : (p : Program) (n : ℕ) (as' : List Argument) (site line : ℕ) (o : Object) → ArgumentsWithin n as' → ObjectWithin n o → Safe n IsWithin (call_object p as' site line o)
+call_object_safe p n as' site line (object.function f) b h = call_function_safe p f n None as' line tt b
+call_object_safe p n as' site line (object.bound v f) b h = call_function_safe p f n (Some v) as' line h b
+call_object_safe p n as' site line (object.class c es) b h = make_safe p c n as' line b
+call_object_safe p n as' site line (object.foreign f) b h = foreign_safe p None n as' site line f tt b
+call_object_safe p n as' site line (object.bound_foreign v f) b h = foreign_safe p (Some v) n as' site line f h b
+call_object_safe p n as' site line (object.outside (term.callable t)) b h = fresh_safe p t n
+call_object_safe p n as' site line o b h = safe_if n IsWithin (is_unfollowed o) anything (fails line not_callable) (safe_anything n) (safe_fails n IsWithin line not_callable)
+
+call_any_safe : (p : Program) (n : ℕ) (v : Value) (as' : List Argument) (site line : ℕ) → ArgumentsWithin n as' → Safe n IsWithin (call_any p v as' site line)
+call_any_safe p n (ref place) as' site line b = safe_at n IsWithin place (call_object p as' site line) (λ o k le w. call_object_safe p k as' site line o (arguments_on n k as' le b) w)
+call_any_safe p n none as' site line b = safe_fails n IsWithin line not_callable
+call_any_safe p n _ as' site line b = safe_fails n IsWithin line not_callable
+
+-- ---- calls from outside
+
+outside_value_safe : (names : List ℕ) (q : Param) (n : ℕ) → Safe n IsWithin (outside_value names q)
+outside_value_safe names q n =
+    safe_if n IsWithin (is_some q.default && list_any (nat_eq q.name) names) (gives (default_value q)) anything (safe_gives n (default_value q) (default_of n q.default)) (safe_anything n)
+
+gives_entries : (n : ℕ) (es : Entries) → EntriesWithin n es → Safe n EntriesWithin (gives es)
+gives_entries n es h = record { keeps = λ m good le. entries_on n (size m) es le h }
+
+outside_values_safe : (names : List ℕ) (qs : List Param) (n : ℕ) → Safe n EntriesWithin (outside_values names qs)
+outside_values_safe names [] n = gives_entries n [] tt
+outside_values_safe names (q ∷ qs) n =
+    safe_bind n IsWithin EntriesWithin (outside_value names q) (λ v. bind (outside_values names qs) (λ es. gives ((q.name, v) ∷ es))) (outside_value_safe names q n) (λ v k le w.
+    safe_bind k EntriesWithin EntriesWithin (outside_values names qs) (λ es. gives ((q.name, v) ∷ es)) (outside_values_safe names qs k) (λ es j le' x. gives_entries j ((q.name, v) ∷ es) (within_on k j v le' w, x)))
+
+outside_locals_safe : (names : List ℕ) (o : Option Value) (qs : List Param) (n : ℕ) → OptionWithin n o → Safe n EntriesWithin (outside_locals names o qs)
+outside_locals_safe names (Some v) (q ∷ qs) n a =
+    safe_bind n EntriesWithin EntriesWithin (outside_values names qs) (λ es. gives ((q.name, v) ∷ es)) (outside_values_safe names qs n) (λ es k le w. gives_entries k ((q.name, v) ∷ es) (within_on n k v le a, w))
+outside_locals_safe names (Some v) [] n a = outside_values_safe names [] n
+outside_locals_safe names None qs n a = outside_values_safe names qs n
+
+from_outside_safe : (p : Program) (f : ℕ) (row : FunRow) (names : List ℕ) (o : Option Value) (n : ℕ) → OptionWithin n o → Safe n IsWithin (enter_from_outside p f row names o)
+from_outside_safe p f row names o n a = safe_bind n EntriesWithin IsWithin (outside_locals names o row.params) (enter p f row) (outside_locals_safe names o row.params n a) (λ es k le w. enter_safe p f k row es w)
+
+receivers_if_within : (n : ℕ) (b : Bool) (place : ℕ) (vs : List Value) → place < n → AreWithin n vs → AreWithin n (receivers_if b place vs)
+receivers_if_within n true place vs a h = (a, h)
+receivers_if_within n false place vs a h = h
+
+receivers_within : (p : Program) (row : FunRow) (owner n place : ℕ) (os : List Object) → place + length os ≤ n → AreWithin n (receivers p row owner place os)
+receivers_within p row owner n place [] le = tt
+receivers_within p row owner n place (o ∷ os) le = receivers_if_within n (finds_at p row owner o) place (receivers p row owner (suc place) os) (omega arith) (receivers_within p row owner n (suc place) os (omega arith))
+
+option_gives : (n : ℕ) (o : Option Value) → OptionWithin n o → Safe n OptionWithin (gives o)
+option_gives n o h = record { keeps = λ m good le. option_on n (size m) o le h }
+
+one_value : (n : ℕ) (vs : List Value) → AreWithin n vs → Safe n OptionWithin (one_of vs)
+one_value n vs h = safe_bind n Free OptionWithin (pick (length vs)) (λ i. gives (slice_get vs i)) (safe_pick n (length vs)) (λ i k le w. option_gives k (slice_get vs i) (get_within k vs i (are_on n k vs le h)))
+
+method_outside_safe : (p : Program) (f : ℕ) (row : FunRow) (names : List ℕ) (owner n : ℕ) → Safe n IsWithin (method_from_outside p f row names owner)
+method_outside_safe p f row names owner n =
+    safe_looks n IsWithin (λ m. bind (one_of (receivers p row owner 0 m.heap)) (enter_from_outside p f row names)) (λ m good le.
+    safe_bind (size m) OptionWithin IsWithin (one_of (receivers p row owner 0 m.heap)) (enter_from_outside p f row names) (one_value (size m) (receivers p row owner 0 m.heap) (receivers_within p row owner (size m) 0 m.heap (omega arith))) (λ o k le' w. from_outside_safe p f row names o k w))
+
+class_or : (p : Program) (f : ℕ) (row : FunRow) (names : List ℕ) (n : ℕ) (o : Option ℕ) → Safe n IsWithin (elim o [ None ↦ enter_from_outside p f row names None | Some owner ↦ method_from_outside p f row names owner ])
+class_or p f row names n None = from_outside_safe p f row names None n tt
+class_or p f row names n (Some owner) = method_outside_safe p f row names owner n
+
+instance_outside_safe : (p : Program) (f : ℕ) (row : FunRow) (names : List ℕ) (v : Value) (n : ℕ) → IsWithin n v → Safe n IsWithin (instance_from_outside p f row names v)
+instance_outside_safe p f row names v n a = safe_then n IsWithin IsWithin (enter_from_outside p f row names (Some v)) (gives v) (from_outside_safe p f row names (Some v) n a) (λ k le. safe_gives k v (within_on n k v le a))
+
+class_outside_safe : (p : Program) (c : ℕ) (names : List ℕ) (n : ℕ) → Safe n IsWithin (class_from_outside p c names)
+class_outside_safe p c names n =
+    safe_bind n IsWithin IsWithin (allocate (object.instance c [])) (λ v. elim (init_of p c) [ None ↦ gives v | Some f ↦ elim (fun_at p f) [ None ↦ gives v | Some row ↦ instance_from_outside p f row names v ] ]) (safe_allocate n (object.instance c []) tt) (λ v k le w.
+    safe_option k IsWithin (init_of p c) (λ f. elim (fun_at p f) [ None ↦ gives v | Some row ↦ instance_from_outside p f row names v ]) (gives v)
+    (λ f. safe_option k IsWithin (fun_at p f) (λ row. instance_from_outside p f row names v) (gives v) (λ row. instance_outside_safe p f row names v k w) (safe_gives k v w)) (safe_gives k v w))
+
+outside_safe : (p : Program) (c : OutsideCall) (n : ℕ) → Safe n IsWithin (call_from_outside p c)
+outside_safe p (calls_function f names) n = safe_option n IsWithin (fun_at p f) (λ row. function_from_outside p f row names) anything (λ row. class_or p f row names n row.class) (safe_anything n)
+outside_safe p (calls_class c names) n = class_outside_safe p c names n
+
+-- ---- what a turn does
+
+returning_safe : (n : ℕ) (a : Action Value) → Safe n IsWithin a → Safe n FlowWithin (returning a)
+returning_safe n a h = safe_bind n IsWithin FlowWithin a (λ v. gives (returns v)) h (λ v k le w. gives_flow k (returns v) w)
+
+perform_safe : (p : Program) (q : Request) (n : ℕ) → RequestWithin n q → Safe n FlowWithin (perform p q)
+perform_safe p (call f as' site line) n h = may_then n FlowWithin (returning (call_any p f as' site line)) (returning_safe n (call_any p f as' site line) (call_any_safe p n f as' site line h.1))
+perform_safe p (while_turn test body) n h =
+    safe_bind n FlowWithin FlowWithin (exec_all p body) (λ flow. once_more flow (run_while p test body)) (exec_all_safe p body n) (λ flow k le w. once_more_safe k flow (run_while p test body) w (while_safe p test body k))
+perform_safe p (for_turn target body line v x) n h =
+    safe_then n Free FlowWithin (put p target x) (bind (exec_all p body) (λ flow. once_more flow (run_for p target body line v))) (put_safe p target n x h.1) (λ k le.
+    safe_bind k FlowWithin FlowWithin (exec_all p body) (λ flow. once_more flow (run_for p target body line v)) (exec_all_safe p body k) (λ flow j le' w. once_more_safe j flow (run_for p target body line v) w (for_safe p target body line j v (within_on n j v (omega arith) h.0))))
+perform_safe p (outside_call c) n h = returning_safe n (call_from_outside p c) (outside_safe p c n)
+
+-- ---- runs
+
+abbrev After : {A : Type 0} → (ℕ → A → Type 0) → ℕ → Answer A → Type 0
+After P n (gave a s) = (n ≤ size s.memory) × Good s.memory × P (size s.memory) a
+After P n (raised v s) = (n ≤ size s.memory) × Good s.memory × IsWithin (size s.memory) v
+After P n (stopped why s) = (n ≤ size s.memory) × Good s.memory
+
+after_on : {A : Type 0} (P : ℕ → A → Type 0) (n k : ℕ) (r : Answer A) → n ≤ k → After P k r → After P n r
+after_on P n k (gave a s) le h = let up : k ≤ size s.memory = h.0 in (omega arith, h.1, h.2)
+after_on P n k (raised v s) le h = let up : k ≤ size s.memory = h.0 in (omega arith, h.1, h.2)
+after_on P n k (stopped why s) le h = let up : k ≤ size s.memory = h.0 in (omega arith, h.1)
+
+after_turn_kept : {A : Type 0} (P : ℕ → A → Type 0) (n : ℕ) (r : Answer Flow) (k : Outcome → State → Answer A) → After FlowWithin n r →
+    ((o : Outcome) (s : State) → n ≤ size s.memory → Good s.memory → OutcomeWithin (size s.memory) o → After P n (k o s)) → After P n (after_turn r k)
+after_turn_kept P n (gave flow s) k h g = g (came flow) s h.0 h.1 h.2
+after_turn_kept P n (raised v s) k h g = g (threw v) s h.0 h.1 h.2
+after_turn_kept P n (stopped why s) k h g = h
+
+take_choice_kept : {A : Type 0} (P : ℕ → A → Type 0) (cs : List ℕ) (k : ℕ → State → Answer A) (s : State) → Good s.memory → ((c : ℕ) (ds : List ℕ) → After P (size s.memory) (k c (with_choices ds s))) → After P (size s.memory) (take_choice cs k s)
+take_choice_kept P [] k s good h = (omega arith, good)
+take_choice_kept P (c ∷ cs) k s good h = h c cs
+
+abbrev TurnsKeep : (Request → State → Answer Flow) → Type 0
+TurnsKeep t = (q : Request) (s : State) → Good s.memory → RequestWithin (size s.memory) q → After FlowWithin (size s.memory) (t q s)
+
+carry_kept : {A : Type 0} (P : ℕ → A → Type 0) (t : Request → State → Answer Flow) → TurnsKeep t → (a : Action A) (s : State) → Good s.memory → Keeps P a s.memory → After P (size s.memory) (carry_out t a s)
+carry_kept P t h (gives a) s good k = (omega arith, good, k)
+carry_kept P t h (raises v) s good k = (omega arith, good, k)
+carry_kept P t h (takes a) s good k = take_choice_kept P s.choices (λ c. carry_out t (a c)) s good (λ c ds. carry_kept P t h (a c) (with_choices ds s) good (k c))
+carry_kept P t h (counts a) s good k = carry_kept P t h (a (length s.choices)) s good (k (length s.choices))
+carry_kept P t h (turn q a) s good k =
+    after_turn_kept P (size s.memory) (t q s) (λ o. carry_out t (a o)) (h q s good k.0) (λ o u le gu w. after_on P (size s.memory) (size u.memory) (carry_out t (a o) u) le (carry_kept P t h (a o) u gu (k.1 o u.memory le gu w)))
+carry_kept P t h (looks a) s good k = carry_kept P t h (a s.memory) s good k
+carry_kept P t h (becomes m a) s good k = after_on P (size s.memory) (size m) (carry_out t a (with_memory m s)) k.0 (carry_kept P t h a (with_memory m s) k.1 k.2)
+carry_kept P t h (tells e a) s good k = carry_kept P t h a (with_event e s) good k
+
+begin_kept : (n : ℕ) (f : State → Answer Flow) (s : State) → Good s.memory → ((k : ℕ) → After FlowWithin (size s.memory) (f (with_turns k s))) → After FlowWithin (size s.memory) (begin_turn n f s)
+begin_kept zero f s good h = (omega arith, good)
+begin_kept (suc n) f s good h = h n
+
+turns_keep : (p : Program) (n : ℕ) → TurnsKeep (turns_within p n)
+unfolding turns_within
+turns_keep p zero q s good w = (omega arith, good)
+turns_keep p (suc n) q s good w =
+    begin_kept s.turns (carry_out (turns_within p n) (perform p q)) s good (λ k. carry_kept FlowWithin (turns_within p n) (turns_keep p n) (perform p q) (with_turns k s) good ((perform_safe p q (size s.memory) w).keeps s.memory good (omega arith)))
+
+-- ---- a run of a module
+
+tell_safe : (name n : ℕ) (o : Option Value) (a : Action (Unit {0})) → Safe n Free a → Safe n Free (tell_if name o a)
+tell_safe name n None a h = h
+tell_safe name n (Some v) a h = safe_tells n Free (held name v) a h
+
+tell_names_safe : (names : List ℕ) (n : ℕ) → Safe n Free (tell_names names)
+tell_names_safe [] n = safe_done n
+tell_names_safe (name ∷ names) n = safe_looks n Free (λ m. tell_if name (entry m.globals name) (tell_names names)) (λ m good le. tell_safe name (size m) (entry m.globals name) (tell_names names) (tell_names_safe names (size m)))
+
+module_safe : (p : Program) (n : ℕ) → Safe n Free (module_action p)
+module_safe p n = safe_then n FlowWithin Free (exec_all p p.body) (tell_names (printed p)) (exec_all_safe p p.body n) (λ k le. tell_names_safe (printed p) k)
+
+call_if_safe : (b : Bool) (c : OutsideCall) (n : ℕ) → Safe n Free (call_if b c)
+call_if_safe false c n = safe_done n
+call_if_safe true c n = safe_turn n Free (outside_call c) (λ o. done) tt (λ o j le w. safe_done j)
+
+make_calls_safe : (p : Program) (cs : List OutsideCall) (n : ℕ) → Safe n Free (make_calls p cs)
+make_calls_safe p [] n = safe_done n
+make_calls_safe p (c ∷ cs) n =
+    safe_then n Free Free (looks (λ m. call_if (can_be_called p m.heap c) c)) (make_calls p cs) (safe_looks n Free (λ m. call_if (can_be_called p m.heap c) c) (λ m good le. call_if_safe (can_be_called p m.heap c) c (size m))) (λ k le. make_calls_safe p cs k)
+
+nothing_good : Good no_memory
+nothing_good = record { heap = tt; globals = tt; frame = tt; handled = tt }
+
+heap_of_answer : (r : Answer (Unit {0})) → After Free 0 r → ObjectsWithin (length (run_of r).heap) (run_of r).heap
+heap_of_answer (gave a s) h = h.1.heap
+heap_of_answer (raised v s) h = h.1.heap
+heap_of_answer (stopped why s) h = h.1.heap
+
+pub references_point_in : ReferencesPointIn
+unfolding run answer
+references_point_in m stubs n choices calls =
+    let p : Program = program m stubs in
+    let a : Action (Unit {0}) = then_do (module_action p) (make_calls p calls) in
+    let safe : Safe 0 Free a = safe_then 0 Free Free (module_action p) (make_calls p calls) (module_safe p 0) (λ k le. make_calls_safe p calls k) in
+    heap_of_answer (carry_out (turns_within p n) a (start n choices)) (carry_kept Free (turns_within p n) (turns_keep p n) a (start n choices) nothing_good (safe.keeps no_memory nothing_good (omega arith)))

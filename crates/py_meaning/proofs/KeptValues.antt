@@ -1,0 +1,367 @@
+-- Fresh values, parts, operators and what iterating gives are within the heap.
+use Rattle.std.proofs.Common.{ℕ, zero, suc, ◌≤◌, Bool, List, [], ◌∷◌, ◌++◌, map, length, Option, Some, None, slice_get, unwrap_or}
+use Rattle.std.specs.Prelude.{is_some, codes}
+use Rattle.std.specs.Str.{bytes_eq}
+use Rattle.type_terms.specs.BuiltinNames.{is_instance_name}
+use Rattle.place_ids.specs.declared.operators.BinOp.{BinOp}
+use Rattle.place_ids.specs.declared.operators.BinOp.TheVariants as bin
+use Rattle.place_ids.specs.declared.operators.CompareOp.{CompareOp}
+use Rattle.place_ids.specs.declared.operators.CompareOp.TheVariants as cmp
+use Rattle.place_ids.specs.declared.operators.UnaryOp.{UnaryOp}
+use Rattle.builtin_stubs.specs.declared.basic.Basic.{Basic}
+use Rattle.builtin_stubs.specs.declared.basic.Basic.TheVariants as kind
+use Rattle.builtin_stubs.specs.Meanings.{Native, Outcome, view, pair_view, kind as of_a_kind, items, own_keys, own_values}
+use Rattle.builtin_stubs.specs.Natives.{function_number}
+use Rattle.type_terms.specs.Terms as term
+use Rattle.type_terms.specs.Terms.{Term, Terms, list_of}
+use Rattle.py_meaning.specs.Values.{Value, none, float, text, octets, ref}
+use Rattle.py_meaning.specs.Objects as object
+use Rattle.py_meaning.specs.Objects.{Object, object_at}
+use Rattle.py_meaning.specs.Programs.{Program}
+use Rattle.py_meaning.specs.StubItems.{StubClass, stub_class_at}
+use Rattle.py_meaning.specs.Fresh as f
+use Rattle.py_meaning.specs.Fresh.{fresh_whole, fresh_text, fresh_octets, fresh_instance, stub_class_value, class_value, fresh, fresh_member, of_kind}
+use Rattle.py_meaning.specs.Contents.{Content, held, declared, contents, contents_at, Pair, pairs, held_pair, read, read_all, read_pair, read_pairs}
+use Rattle.py_meaning.specs.Operators.{times, repeated, gathered, made, by_row, binary, unary, known_truth, ordered, within, compare}
+use Rattle.py_meaning.specs.Iteration.{Step, no_items, ended, element, on_element, stepped, among, by_parity, of_places, step_of_term, values_of, pair_of, paired, pairs_of, at_value, paired_with, numbered, argument_at, step_of_view, step_of_native, step_of_object, step_of, iterate_in, iterate, drain_in, drain, items_of_object, items_of}
+use Rattle.py_meaning.specs.Actions.{Memory, Action, gives}
+use Rattle.py_meaning.specs.References.{IsWithin, AreWithin, PairsWithin, OptionWithin, ObjectWithin}
+use Rattle.py_meaning.proofs.Kept.{within_on, are_on, pairs_on, size, Good, Safe, Free, safe_bind, safe_takes, safe_counts, safe_looks, safe_if, safe_allocate, safe_at, object_within, safe_pick, safe_anything, safe_either, safe_fails, safe_one, safe_option, safe_gives, safe_gives_all, safe_gives_pairs, are_append, get_within, or_within, firsts_within, seconds_within, PairWithin, pair_within}
+
+-- ---- fresh values
+
+pub whole_safe : (n : ℕ) → Safe n IsWithin fresh_whole
+whole_safe n = record { keeps = λ m good le. λ c. tt }
+
+pub text_safe : (n : ℕ) → Safe n IsWithin fresh_text
+text_safe n = record { keeps = λ m good le. λ c. tt }
+
+pub octets_safe : (n : ℕ) → Safe n IsWithin fresh_octets
+octets_safe n = record { keeps = λ m good le. λ c. tt }
+
+pub instance_safe : (p : Program) (n : ℕ) (name : List ℕ) → Safe n IsWithin (fresh_instance p name)
+instance_safe p n name =
+    safe_if n IsWithin (bytes_eq name (codes "object")) _ _ (safe_anything n)
+    (safe_if n IsWithin (is_instance_name name) _ _ (safe_allocate n (object.outside (term.class name)) tt)
+    (safe_if n IsWithin (is_some (stub_class_at p name)) _ _ (safe_allocate n (object.outside (term.class name)) tt) (safe_anything n)))
+
+stub_class_safe : (n : ℕ) (o : Option StubClass) → Safe n IsWithin (stub_class_value o)
+stub_class_safe n None = safe_anything n
+stub_class_safe n (Some k) = safe_allocate n _ tt
+
+class_safe : (p : Program) (n : ℕ) (name : List ℕ) → Safe n IsWithin (class_value p name)
+class_safe p n name = safe_option n IsWithin (function_number name) _ _ (λ i. safe_allocate n _ tt) (stub_class_safe n (stub_class_at p name))
+
+mutual
+  pub fresh_safe : (p : Program) (t : Term) (n : ℕ) → Safe n IsWithin (fresh p t)
+  fresh_safe p term.any n = safe_anything n
+  fresh_safe p term.none n = safe_gives n none tt
+  fresh_safe p term.bool n = safe_either n
+  fresh_safe p term.int n = whole_safe n
+  fresh_safe p term.float n = safe_gives n float tt
+  fresh_safe p term.str n = text_safe n
+  fresh_safe p term.bytes n = octets_safe n
+  fresh_safe p (term.class name) n = instance_safe p n name
+  fresh_safe p (term.class_of name) n = class_safe p n name
+  fresh_safe p (term.union ts) n = safe_bind n Free IsWithin _ _ (safe_pick n (f.size ts)) (λ i k le h. fresh_member_safe p ts i k)
+  fresh_safe p (term.list t) n = safe_allocate n _ tt
+  fresh_safe p (term.dict t u) n = safe_allocate n _ tt
+  fresh_safe p (term.tuple ts) n = safe_allocate n _ tt
+  fresh_safe p (term.tuple_of t) n = safe_allocate n _ tt
+  fresh_safe p (term.callable t) n = safe_allocate n _ tt
+
+  pub fresh_member_safe : (p : Program) (ts : Terms) (i n : ℕ) → Safe n IsWithin (fresh_member p ts i)
+  fresh_member_safe p term.no_terms i n = safe_anything n
+  fresh_member_safe p (term.term t ts) zero n = fresh_safe p t n
+  fresh_member_safe p (term.term t ts) (suc i) n = fresh_member_safe p ts i n
+
+pub kind_safe : (n : ℕ) (k : Basic) → Safe n IsWithin (of_kind k)
+kind_safe n kind.NoneKind = safe_gives n none tt
+kind_safe n kind.Bool = safe_either n
+kind_safe n kind.Int = whole_safe n
+kind_safe n kind.Float = safe_gives n float tt
+kind_safe n kind.Str = text_safe n
+kind_safe n kind.Bytes = octets_safe n
+kind_safe n kind.Range = safe_allocate n _ tt
+kind_safe n _ = safe_anything n
+
+-- ---- parts
+
+abbrev pub ContentWithin : ℕ → Content → Type 0
+ContentWithin n (held v) = IsWithin n v
+ContentWithin n (declared t) = Unit {0}
+
+abbrev pub ContentsWithin : ℕ → List Content → Type 0
+ContentsWithin n [] = Unit {0}
+ContentsWithin n (c ∷ cs) = ContentWithin n c × ContentsWithin n cs
+
+abbrev pub ContentPairsWithin : ℕ → List Pair → Type 0
+ContentPairsWithin n [] = Unit {0}
+ContentPairsWithin n (q ∷ qs) = ContentWithin n q.0 × ContentWithin n q.1 × ContentPairsWithin n qs
+
+pub contents_on : (n k : ℕ) (cs : List Content) → n ≤ k → ContentsWithin n cs → ContentsWithin k cs
+contents_on n k [] le h = tt
+contents_on n k (held v ∷ cs) le h = (within_on n k v le h.0, contents_on n k cs le h.1)
+contents_on n k (declared t ∷ cs) le h = (tt, contents_on n k cs le h.1)
+
+pub all_held : (n : ℕ) (vs : List Value) → AreWithin n vs → ContentsWithin n (map held vs)
+all_held n [] h = tt
+all_held n (v ∷ vs) h = (h.0, all_held n vs h.1)
+
+all_declared : (n : ℕ) (ts : List Term) → ContentsWithin n (map declared ts)
+all_declared n [] = tt
+all_declared n (t ∷ ts) = (tt, all_declared n ts)
+
+pairs_held : (n : ℕ) (qs : List (Value × Value)) → PairsWithin n qs → ContentPairsWithin n (map held_pair qs)
+pairs_held n [] h = tt
+pairs_held n (q ∷ qs) h = (h.0, h.1, pairs_held n qs h.2)
+
+pub contents_within : (n : ℕ) (o : Object) → ObjectWithin n o → ContentsWithin n (contents o)
+contents_within n (object.list site vs) h = all_held n vs h
+contents_within n (object.tuple site layout vs) h = all_held n vs h
+contents_within n (object.outside (term.list t)) h = (tt, tt)
+contents_within n (object.outside (term.tuple ts)) h = all_declared n (list_of ts)
+contents_within n (object.outside (term.tuple_of t)) h = (tt, tt)
+contents_within n _ h = tt
+
+pub contents_at_within : (m : Memory) (v : Value) → Good m → ContentsWithin (size m) (contents_at m.heap v)
+contents_at_within m (ref place) good = contents_within (size m) (object_at m.heap place) (object_within m place good)
+contents_at_within m none good = tt
+contents_at_within m _ good = tt
+
+pub content_pairs_within : (n : ℕ) (o : Object) → ObjectWithin n o → ContentPairsWithin n (pairs o)
+content_pairs_within n (object.dict site qs) h = pairs_held n qs h
+content_pairs_within n (object.outside (term.dict t u)) h = (tt, tt, tt)
+content_pairs_within n _ h = tt
+
+contents_append : (n : ℕ) (cs ds : List Content) → ContentsWithin n cs → ContentsWithin n ds → ContentsWithin n (cs ++ ds)
+contents_append n [] ds h k = k
+contents_append n (c ∷ cs) ds h k = (h.0, contents_append n cs ds h.1 k)
+
+pub read_safe : (p : Program) (n : ℕ) (c : Content) → ContentWithin n c → Safe n IsWithin (read p c)
+read_safe p n (held v) h = safe_gives n v h
+read_safe p n (declared t) h = fresh_safe p t n
+
+pub read_all_safe : (p : Program) (n : ℕ) (cs : List Content) → ContentsWithin n cs → Safe n AreWithin (read_all p cs)
+read_all_safe p n [] h = safe_gives_all n [] tt
+read_all_safe p n (c ∷ cs) h =
+    safe_bind n IsWithin AreWithin _ _ (read_safe p n c h.0) (λ v k le w.
+    safe_bind k AreWithin AreWithin _ _ (read_all_safe p k cs (contents_on n k cs le h.1)) (λ vs j le' ws. safe_gives_all j (v ∷ vs) (within_on k j v le' w, ws)))
+
+abbrev pub BothWithin : ℕ → Value × Value → Type 0
+BothWithin n q = IsWithin n q.0 × IsWithin n q.1
+
+safe_both : (n : ℕ) (q : Value × Value) → IsWithin n q.0 → IsWithin n q.1 → Safe n BothWithin (gives q)
+safe_both n q h k = record { keeps = λ m good le. (within_on n (size m) q.0 le h, within_on n (size m) q.1 le k) }
+
+content_on : (n k : ℕ) (c : Content) → n ≤ k → ContentWithin n c → ContentWithin k c
+content_on n k (held v) le h = within_on n k v le h
+content_on n k (declared t) le h = tt
+
+pub read_pair_safe : (p : Program) (n : ℕ) (q : Pair) → ContentWithin n q.0 → ContentWithin n q.1 → Safe n BothWithin (read_pair p q)
+read_pair_safe p n q h g =
+    safe_bind n IsWithin BothWithin _ _ (read_safe p n q.0 h) (λ v k le w.
+    safe_bind k IsWithin BothWithin _ _ (read_safe p k q.1 (content_on n k q.1 le g)) (λ x j le' y. safe_both j (v, x) (within_on k j v le' w) y))
+
+content_pairs_on : (n k : ℕ) (qs : List Pair) → n ≤ k → ContentPairsWithin n qs → ContentPairsWithin k qs
+content_pairs_on n k [] le h = tt
+content_pairs_on n k (q ∷ qs) le h = (content_on n k q.0 le h.0, content_on n k q.1 le h.1, content_pairs_on n k qs le h.2)
+
+pub read_pairs_safe : (p : Program) (n : ℕ) (qs : List Pair) → ContentPairsWithin n qs → Safe n PairsWithin (read_pairs p qs)
+read_pairs_safe p n [] h = safe_gives_pairs n [] tt
+read_pairs_safe p n (q ∷ qs) h =
+    safe_bind n BothWithin PairsWithin _ _ (read_pair_safe p n q h.0 h.1) (λ v k le w.
+    safe_bind k PairsWithin PairsWithin _ _ (read_pairs_safe p k qs (content_pairs_on n k qs le h.2)) (λ vs j le' ws. safe_gives_pairs j (v ∷ vs) (within_on k j v.0 le' w.0, within_on k j v.1 le' w.1, ws)))
+
+-- ---- operators
+
+times_safe : (p : Program) (fuel n : ℕ) (cs : List Content) (sofar : List Value) → ContentsWithin n cs → AreWithin n sofar → Safe n AreWithin (times p fuel cs sofar)
+times_safe p zero n cs sofar h k = safe_takes n AreWithin _ (λ c. safe_gives_all n sofar k)
+times_safe p (suc fuel) n cs sofar h k =
+    safe_takes n AreWithin _ (λ c. safe_if n AreWithin _ _ _
+    (safe_bind n AreWithin AreWithin _ _ (read_all_safe p n cs h) (λ vs j le ws. times_safe p fuel j cs (sofar ++ vs) (contents_on n j cs le h) (are_append j sofar vs (are_on n j sofar le k) ws)))
+    (safe_gives_all n sofar k))
+
+pub repeated_safe : (p : Program) (n : ℕ) (cs : List Content) → ContentsWithin n cs → Safe n AreWithin (repeated p cs)
+repeated_safe p n cs h = safe_counts n AreWithin _ (λ fuel. times_safe p fuel n cs [] h tt)
+
+gathered_safe : (p : Program) (op : BinOp) (n : ℕ) (cs : List Content) → ContentsWithin n cs → Safe n AreWithin (gathered p op cs)
+gathered_safe p bin.Mul n cs h = repeated_safe p n cs h
+gathered_safe p _ n cs h = read_all_safe p n cs h
+
+made_safe : (p : Program) (op : BinOp) (k : Basic) (site n : ℕ) (cs : List Content) → ContentsWithin n cs → Safe n IsWithin (made p op k site cs)
+made_safe p op kind.List site n cs h = safe_bind n AreWithin IsWithin _ _ (gathered_safe p op n cs h) (λ vs j le ws. safe_allocate j _ ws)
+made_safe p op kind.Tuple site n cs h = safe_bind n AreWithin IsWithin _ _ (gathered_safe p op n cs h) (λ vs j le ws. safe_allocate j _ ws)
+made_safe p op kind.NoneKind site n cs h = kind_safe n kind.NoneKind
+made_safe p op k site n cs h = kind_safe n k
+
+by_row_safe : (n line : ℕ) (g : Basic → Action Value) (o : Option (List Basic)) → ((k : Basic) (j : ℕ) → n ≤ j → Safe j IsWithin (g k)) → Safe n IsWithin (by_row line g o)
+by_row_safe n line g None h = safe_fails n IsWithin line _
+by_row_safe n line g (Some ks) h = safe_bind n Free IsWithin _ _ (safe_one n ks) (λ k j le w. h (unwrap_or k kind.Other) j le)
+
+pub binary_safe : (p : Program) (op : BinOp) (site line n : ℕ) (v w : Value) → Safe n IsWithin (binary p op site line v w)
+binary_safe p op site line n v w =
+    safe_looks n IsWithin _ (λ m good le.
+    safe_if (size m) IsWithin _ _ _ (safe_anything (size m))
+    (by_row_safe (size m) line _ _ (λ k j le'. made_safe p op k site j _ (contents_on (size m) j _ le' (contents_append (size m) _ _ (contents_at_within m v good) (contents_at_within m w good))))))
+
+pub unary_safe : (op : UnaryOp) (line n : ℕ) (v : Value) → Safe n IsWithin (unary op line v)
+unary_safe op line n v =
+    safe_looks n IsWithin _ (λ m good le. safe_if (size m) IsWithin _ _ _ (safe_anything (size m)) (by_row_safe (size m) line _ _ (λ k j le'. kind_safe j k)))
+
+known_safe : (n : ℕ) (g : Bool → Bool) (o : Option Bool) → Safe n IsWithin (known_truth g o)
+known_safe n g None = safe_either n
+known_safe n g (Some b) = safe_gives n _ tt
+
+ordered_safe : (line n : ℕ) (v w : Value) → Safe n IsWithin (ordered line v w)
+ordered_safe line n v w =
+    safe_looks n IsWithin _ (λ m good le. safe_if (size m) IsWithin _ _ _ (safe_anything (size m)) (by_row_safe (size m) line _ _ (λ k j le'. kind_safe j k)))
+
+within_safe : (line n : ℕ) (v w : Value) → Safe n IsWithin (within line v w)
+within_safe line n v w = safe_looks n IsWithin _ (λ m good le. safe_if (size m) IsWithin _ _ _ (safe_either (size m)) (safe_fails (size m) IsWithin line _))
+
+pub compare_safe : (op : CompareOp) (line n : ℕ) (v w : Value) → Safe n IsWithin (compare op line v w)
+compare_safe cmp.Equal line n v w = safe_either n
+compare_safe cmp.NotEqual line n v w = safe_either n
+compare_safe cmp.Is line n v w = safe_looks n IsWithin _ (λ m good le. known_safe (size m) _ _)
+compare_safe cmp.IsNot line n v w = safe_looks n IsWithin _ (λ m good le. known_safe (size m) _ _)
+compare_safe cmp.Within line n v w = within_safe line n v w
+compare_safe cmp.NotWithin line n v w = within_safe line n v w
+compare_safe _ line n v w = ordered_safe line n v w
+
+-- ---- iterating
+
+abbrev pub StepWithin : ℕ → Step → Type 0
+StepWithin n (element v) = IsWithin n v
+StepWithin n _ = Unit {0}
+
+pub safe_step : (n : ℕ) (one : Step) → StepWithin n one → Safe n StepWithin (gives one)
+safe_step n (element v) h = record { keeps = λ m good le. within_on n (size m) v le h }
+safe_step n no_items h = record { keeps = λ m good le. tt }
+safe_step n ended h = record { keeps = λ m good le. tt }
+
+pub element_safe : {A : Type 0} (n : ℕ) (P : ℕ → A → Type 0) (one : Step) (g : Value → Action A) (a : Action A) → StepWithin n one → ((v : Value) → IsWithin n v → Safe n P (g v)) → Safe n P a → Safe n P (on_element one g a)
+element_safe n P (element v) g a h k j = k v h
+element_safe n P no_items g a h k j = j
+element_safe n P ended g a h k j = j
+
+stepped_safe : (n : ℕ) (o : Option Value) → OptionWithin n o → Safe n StepWithin (gives (stepped o))
+stepped_safe n None h = safe_step n ended tt
+stepped_safe n (Some v) h = safe_step n (element v) h
+
+among_safe : (n : ℕ) (vs : List Value) → AreWithin n vs → Safe n StepWithin (among vs)
+among_safe n vs h = safe_bind n Free StepWithin _ _ (safe_pick n (suc (length vs))) (λ i k le w. stepped_safe k (slice_get vs i) (get_within k vs i (are_on n k vs le h)))
+
+parity_safe : (n : ℕ) (a : Action Value) → Safe n IsWithin a → Safe n StepWithin (by_parity a)
+parity_safe n a h = safe_takes n StepWithin _ (λ c. safe_if n StepWithin _ _ _ (safe_bind n IsWithin StepWithin _ _ h (λ v k le w. safe_step k (element v) w)) (safe_step n ended tt))
+
+places_safe : (p : Program) (n : ℕ) (ts : Terms) → Safe n StepWithin (of_places p ts)
+places_safe p n term.no_terms = safe_step n ended tt
+places_safe p n (term.term t ts) = parity_safe n _ (safe_bind n Free IsWithin _ _ (safe_pick n (f.size (term.term t ts))) (λ i k le h. fresh_member_safe p (term.term t ts) i k))
+
+term_step_safe : (p : Program) (n : ℕ) (t : Term) → Safe n StepWithin (step_of_term p t)
+term_step_safe p n (term.list t) = parity_safe n _ (fresh_safe p t n)
+term_step_safe p n (term.dict t u) = parity_safe n _ (fresh_safe p t n)
+term_step_safe p n (term.tuple ts) = places_safe p n ts
+term_step_safe p n (term.tuple_of t) = parity_safe n _ (fresh_safe p t n)
+term_step_safe p n (term.class name) = safe_if n StepWithin (bytes_eq name (codes "range")) _ _ (parity_safe n _ (whole_safe n)) (safe_step n no_items tt)
+term_step_safe p n _ = safe_step n no_items tt
+
+values_safe : (p : Program) (n : ℕ) (o : Object) → ObjectWithin n o → Safe n StepWithin (values_of p o)
+values_safe p n (object.dict site qs) h = among_safe n _ (seconds_within n qs h)
+values_safe p n (object.outside (term.dict t u)) h = parity_safe n _ (fresh_safe p u n)
+values_safe p n _ h = safe_step n no_items tt
+
+pair_safe : (site n : ℕ) (v w : Value) → IsWithin n v → IsWithin n w → Safe n IsWithin (pair_of site v w)
+pair_safe site n v w h k = safe_allocate n (object.tuple site object.places (v ∷ w ∷ [])) (h, (k, tt))
+
+paired_safe : (site n : ℕ) (o : Option (Value × Value)) → PairWithin n o → Safe n StepWithin (paired site o)
+paired_safe site n None h = safe_step n ended tt
+paired_safe site n (Some q) h = safe_bind n IsWithin StepWithin _ _ (pair_safe site n q.0 q.1 h.0 h.1) (λ v k le w. safe_step k (element v) w)
+
+pairs_step_safe : (p : Program) (site n : ℕ) (o : Object) → ObjectWithin n o → Safe n StepWithin (pairs_of p site o)
+pairs_step_safe p site n (object.dict own qs) h = safe_bind n Free StepWithin _ _ (safe_pick n (suc (length qs))) (λ i k le w. paired_safe site k (slice_get qs i) (pair_within k qs i (pairs_on n k qs le h)))
+pairs_step_safe p site n (object.outside (term.dict t u)) h =
+    parity_safe n _ (safe_bind n IsWithin IsWithin _ _ (fresh_safe p t n) (λ v k le a. safe_bind k IsWithin IsWithin _ _ (fresh_safe p u k) (λ w j le' b. pair_safe site j v w (within_on k j v le' a) b)))
+pairs_step_safe p site n _ h = safe_step n no_items tt
+
+at_value_safe : (n : ℕ) (v : Value) (g : Object → Action Step) → ((o : Object) (k : ℕ) → n ≤ k → ObjectWithin k o → Safe k StepWithin (g o)) → Safe n StepWithin (at_value v g)
+at_value_safe n (ref place) g h = safe_at n StepWithin place g h
+at_value_safe n none g h = safe_step n no_items tt
+at_value_safe n _ g h = safe_step n no_items tt
+
+-- what iterates values within the heap
+abbrev pub Iterates : (Value → Action Step) → Type 0
+Iterates inner = (v : Value) (n : ℕ) → IsWithin n v → Safe n StepWithin (inner v)
+
+argument_within : (n : ℕ) (vs : List Value) (i : ℕ) → AreWithin n vs → IsWithin n (argument_at vs i)
+argument_within n vs i h = or_within n (slice_get vs i) none (get_within n vs i h) tt
+
+paired_with_safe : (site n : ℕ) (a b : Action Step) → Safe n StepWithin a → ((k : ℕ) → n ≤ k → Safe k StepWithin b) → Safe n StepWithin (paired_with site a b)
+paired_with_safe site n a b h g =
+    safe_bind n StepWithin StepWithin _ _ h (λ one k le w. element_safe k StepWithin one _ _ w
+    (λ v x. safe_bind k StepWithin StepWithin _ _ (g k le) (λ other j le' y. element_safe j StepWithin other _ _ y
+    (λ u z. safe_bind j IsWithin StepWithin _ _ (pair_safe site j v u (within_on k j v le' x) z) (λ q i le'' r. safe_step i (element q) r))
+    (safe_step j ended tt)))
+    (safe_step k ended tt))
+
+numbered_safe : (site n : ℕ) (a : Action Step) → Safe n StepWithin a → Safe n StepWithin (numbered site a)
+numbered_safe site n a h =
+    safe_bind n StepWithin StepWithin _ _ h (λ one k le w. element_safe k StepWithin one _ _ w
+    (λ v x. safe_bind k IsWithin StepWithin _ _ (whole_safe k) (λ i j le' y. safe_bind j IsWithin StepWithin _ _ (pair_safe site j i v y (within_on k j v le' x)) (λ q l le'' r. safe_step l (element q) r)))
+    (safe_step k ended tt))
+
+view_safe : (p : Program) (inner : Value → Action Step) (site n : ℕ) (receiver : Value) (vs : List Value) (o : Outcome) → Iterates inner → IsWithin n receiver → AreWithin n vs → Safe n StepWithin (step_of_view p inner site receiver vs o)
+view_safe p inner site n receiver vs (view (own_keys ∷ [])) it h k = it receiver n h
+view_safe p inner site n receiver vs (view (own_values ∷ [])) it h k = at_value_safe n receiver _ (λ o j le w. values_safe p j o w)
+view_safe p inner site n receiver vs (pair_view (own_keys ∷ []) (own_values ∷ [])) it h k = at_value_safe n receiver _ (λ o j le w. pairs_step_safe p site j o w)
+view_safe p inner site n receiver vs (pair_view (of_a_kind b ∷ []) (items i ∷ [])) it h k = numbered_safe site n _ (it (argument_at vs i) n (argument_within n vs i k))
+view_safe p inner site n receiver vs (pair_view (items i ∷ []) (items j ∷ [])) it h k =
+    paired_with_safe site n _ _ (it (argument_at vs i) n (argument_within n vs i k)) (λ l le. it (argument_at vs j) l (argument_within l vs j (are_on n l vs le k)))
+view_safe p inner site n receiver vs _ it h k = safe_step n ended tt
+
+native_step_safe : (p : Program) (inner : Value → Action Step) (site n : ℕ) (receiver : Value) (vs : List Value) (o : Option Native) → Iterates inner → IsWithin n receiver → AreWithin n vs → Safe n StepWithin (step_of_native p inner site receiver vs o)
+native_step_safe p inner site n receiver vs None it h k = safe_step n ended tt
+native_step_safe p inner site n receiver vs (Some x) it h k = view_safe p inner site n receiver vs x.outcome it h k
+
+object_step_safe : (p : Program) (inner : Value → Action Step) (n : ℕ) (o : Object) → Iterates inner → ObjectWithin n o → Safe n StepWithin (step_of_object p inner o)
+object_step_safe p inner n (object.list site vs) it h = among_safe n vs h
+object_step_safe p inner n (object.tuple site layout vs) it h = among_safe n vs h
+object_step_safe p inner n (object.dict site qs) it h = among_safe n _ (firsts_within n qs h)
+object_step_safe p inner n (object.view site native receiver vs) it h = native_step_safe p inner site n (unwrap_or receiver none) vs _ it (or_within n receiver none h.0 tt) h.1
+object_step_safe p inner n (object.outside t) it h = safe_if n StepWithin (object.is_unfollowed (object.outside t)) _ _ (parity_safe n _ (safe_anything n)) (term_step_safe p n t)
+object_step_safe p inner n _ it h = safe_step n no_items tt
+
+step_safe : (p : Program) (inner : Value → Action Step) → Iterates inner → Iterates (step_of p inner)
+step_safe p inner it (text e) n h = parity_safe n _ (text_safe n)
+step_safe p inner it (octets e) n h = parity_safe n _ (whole_safe n)
+step_safe p inner it (ref place) n h = safe_at n StepWithin place _ (λ o k le w. object_step_safe p inner k o it w)
+step_safe p inner it _ n h = safe_step n no_items tt
+
+iterate_in_safe : (p : Program) (fuel : ℕ) → Iterates (iterate_in p fuel)
+iterate_in_safe p zero v n h = step_safe p (λ w. gives ended) (λ w k x. safe_step k ended tt) v n h
+iterate_in_safe p (suc fuel) v n h = step_safe p (λ w. iterate_in p fuel w) (iterate_in_safe p fuel) v n h
+
+pub iterate_safe : (p : Program) (n : ℕ) (v : Value) → IsWithin n v → Safe n StepWithin (iterate p v)
+iterate_safe p n v h = safe_looks n StepWithin _ (λ m good le. iterate_in_safe p (length m.heap) v (size m) (within_on n (size m) v le h))
+
+drain_in_safe : (p : Program) (fuel n : ℕ) (v : Value) (sofar : List Value) → IsWithin n v → AreWithin n sofar → Safe n AreWithin (drain_in p fuel v sofar)
+drain_in_safe p zero n v sofar h k = safe_bind n StepWithin AreWithin _ _ (iterate_safe p n v h) (λ one j le w. safe_gives_all j sofar (are_on n j sofar le k))
+drain_in_safe p (suc fuel) n v sofar h k =
+    safe_bind n StepWithin AreWithin _ _ (iterate_safe p n v h) (λ one j le w. element_safe j AreWithin one _ _ w
+    (λ u x. drain_in_safe p fuel j v (sofar ++ u ∷ []) (within_on n j v le h) (are_append j sofar (u ∷ []) (are_on n j sofar le k) (x, tt)))
+    (safe_gives_all j sofar (are_on n j sofar le k)))
+
+pub drain_safe : (p : Program) (n : ℕ) (v : Value) → IsWithin n v → Safe n AreWithin (drain p v)
+drain_safe p n v h = safe_counts n AreWithin _ (λ fuel. drain_in_safe p fuel n v [] h tt)
+
+items_object_safe : (p : Program) (n : ℕ) (v : Value) (o : Object) → IsWithin n v → ObjectWithin n o → Safe n AreWithin (items_of_object p v o)
+items_object_safe p n v (object.list site vs) h k = safe_gives_all n vs k
+items_object_safe p n v (object.tuple site layout vs) h k = safe_gives_all n vs k
+items_object_safe p n v (object.dict site qs) h k = safe_gives_all n _ (firsts_within n qs k)
+items_object_safe p n v _ h k = drain_safe p n v h
+
+pub items_safe : (p : Program) (n : ℕ) (v : Value) → IsWithin n v → Safe n AreWithin (items_of p v)
+items_safe p n (ref place) h = safe_at n AreWithin place _ (λ o k le w. items_object_safe p k (ref place) o (within_on n k (ref place) le h) w)
+items_safe p n none h = drain_safe p n none h
+items_safe p n v h = drain_safe p n v h

@@ -1,0 +1,594 @@
+-- Runs of operators, computed.
+use Rattle.std.specs.Prelude.{◌≡◌, pos, true, false, [], ◌∷◌, None, refl, codes}
+use Rattle.place_ids.specs.declared.operators.BinOp.TheVariants as bin
+use Rattle.place_ids.specs.declared.operators.CompareOp.TheVariants as cmp
+use Rattle.place_ids.specs.declared.operators.UnaryOp.TheVariants as un
+use Rattle.py_tree.specs.declared.literal.Literal.TheVariants as lit
+use Rattle.py_tree.specs.Tree as tree
+use Rattle.py_tree.specs.Tree.{Module, Param, node, Exprs, no_exprs, expr, no_bound, bound, no_args, arg, no_pairs, pair, statement, no_stmts, stmt, no_arms, arm, no_handlers, handler, fun_def, class_def, no_members, member}
+use Rattle.py_meaning.specs.Values.{none, truth, whole, float, text, octets, ref}
+use Rattle.py_meaning.specs.Objects as object
+use Rattle.py_meaning.specs.Events as event
+use Rattle.py_meaning.specs.Runs.{turns_within, answer, ended, raised_out, run}
+use Rattle.py_meaning.proofs.Samples.{error, anything}
+
+--     x = 1
+--     y = x
+abbrev names_module : Module
+names_module = record {
+  body = stmt (statement (tree.assign (expr (node (tree.name 0) 1 0) no_exprs) (node (tree.literal (lit.Int false 1)) 1 1)) 1) (stmt (statement (tree.assign (expr (node (tree.name 1) 2 2) no_exprs) (node (tree.name 0) 2 3)) 2) no_stmts);
+  names = codes "x" ∷ codes "y" ∷ [];
+}
+
+names : run names_module [] 0 (0 ∷ []) ([]) ≡ record {
+  events = event.held 0 (whole (pos 1)) ∷ event.held 1 (whole (pos 1)) ∷ [];
+  heap = [];
+  ending = ended;
+}
+unfolding run answer turns_within
+names = refl
+
+-- a whole number is the choice itself
+--     x = 1
+--     z = x + 2
+abbrev sums_module : Module
+sums_module = record {
+  body = stmt (statement (tree.assign (expr (node (tree.name 0) 1 0) no_exprs) (node (tree.literal (lit.Int false 1)) 1 1)) 1) (stmt (statement (tree.assign (expr (node (tree.name 1) 2 2) no_exprs) (node (tree.binary bin.Add (node (tree.name 0) 2 3) (node (tree.literal (lit.Int false 2)) 2 4)) 2 5)) 2) no_stmts);
+  names = codes "x" ∷ codes "z" ∷ [];
+}
+
+sums : run sums_module [] 0 (0 ∷ 0 ∷ 7 ∷ []) ([]) ≡ record {
+  events = event.held 0 (whole (pos 1)) ∷ event.held 1 (whole (pos 7)) ∷ [];
+  heap = [];
+  ending = ended;
+}
+unfolding run answer turns_within
+sums = refl
+
+--     z = 1 / 2
+abbrev divides_module : Module
+divides_module = record {
+  body = stmt (statement (tree.assign (expr (node (tree.name 0) 1 0) no_exprs) (node (tree.binary bin.Div (node (tree.literal (lit.Int false 1)) 1 1) (node (tree.literal (lit.Int false 2)) 1 2)) 1 3)) 1) no_stmts;
+  names = codes "z" ∷ [];
+}
+
+divides : run divides_module [] 0 (0 ∷ []) ([]) ≡ record {
+  events = event.held 0 float ∷ [];
+  heap = [];
+  ending = ended;
+}
+unfolding run answer turns_within
+divides = refl
+
+-- of the two kinds of a power the choice picks the float
+--     z = 2 ** 3
+abbrev raises_to_a_float_module : Module
+raises_to_a_float_module = record {
+  body = stmt (statement (tree.assign (expr (node (tree.name 0) 1 0) no_exprs) (node (tree.binary bin.Pow (node (tree.literal (lit.Int false 2)) 1 1) (node (tree.literal (lit.Int false 3)) 1 2)) 1 3)) 1) no_stmts;
+  names = codes "z" ∷ [];
+}
+
+raises_to_a_float : run raises_to_a_float_module [] 0 (0 ∷ 1 ∷ []) ([]) ≡ record {
+  events = event.held 0 float ∷ [];
+  heap = [];
+  ending = ended;
+}
+unfolding run answer turns_within
+raises_to_a_float = refl
+
+--     z = 2 ** 3
+abbrev raises_to_a_whole_module : Module
+raises_to_a_whole_module = record {
+  body = stmt (statement (tree.assign (expr (node (tree.name 0) 1 0) no_exprs) (node (tree.binary bin.Pow (node (tree.literal (lit.Int false 2)) 1 1) (node (tree.literal (lit.Int false 3)) 1 2)) 1 3)) 1) no_stmts;
+  names = codes "z" ∷ [];
+}
+
+raises_to_a_whole : run raises_to_a_whole_module [] 0 (0 ∷ 2 ∷ 9 ∷ []) ([]) ≡ record {
+  events = event.held 0 (whole (pos 9)) ∷ [];
+  heap = [];
+  ending = ended;
+}
+unfolding run answer turns_within
+raises_to_a_whole = refl
+
+--     z = True & False
+abbrev joins_bits_of_truth_values_module : Module
+joins_bits_of_truth_values_module = record {
+  body = stmt (statement (tree.assign (expr (node (tree.name 0) 1 0) no_exprs) (node (tree.binary bin.BitAnd (node (tree.literal lit.TrueValue) 1 1) (node (tree.literal lit.FalseValue) 1 2)) 1 3)) 1) no_stmts;
+  names = codes "z" ∷ [];
+}
+
+joins_bits_of_truth_values : run joins_bits_of_truth_values_module [] 0 (0 ∷ 1 ∷ []) ([]) ≡ record {
+  events = event.held 0 (truth false) ∷ [];
+  heap = [];
+  ending = ended;
+}
+unfolding run answer turns_within
+joins_bits_of_truth_values = refl
+
+--     z = True | 4
+abbrev joins_bits_of_numbers_module : Module
+joins_bits_of_numbers_module = record {
+  body = stmt (statement (tree.assign (expr (node (tree.name 0) 1 0) no_exprs) (node (tree.binary bin.BitOr (node (tree.literal lit.TrueValue) 1 1) (node (tree.literal (lit.Int false 4)) 1 2)) 1 3)) 1) no_stmts;
+  names = codes "z" ∷ [];
+}
+
+joins_bits_of_numbers : run joins_bits_of_numbers_module [] 0 (0 ∷ 6 ∷ []) ([]) ≡ record {
+  events = event.held 0 (whole (pos 6)) ∷ [];
+  heap = [];
+  ending = ended;
+}
+unfolding run answer turns_within
+joins_bits_of_numbers = refl
+
+--     z = 1 << 2
+abbrev shifts_module : Module
+shifts_module = record {
+  body = stmt (statement (tree.assign (expr (node (tree.name 0) 1 0) no_exprs) (node (tree.binary bin.ShiftLeft (node (tree.literal (lit.Int false 1)) 1 1) (node (tree.literal (lit.Int false 2)) 1 2)) 1 3)) 1) no_stmts;
+  names = codes "z" ∷ [];
+}
+
+shifts : run shifts_module [] 0 (0 ∷ 5 ∷ []) ([]) ≡ record {
+  events = event.held 0 (whole (pos 5)) ∷ [];
+  heap = [];
+  ending = ended;
+}
+unfolding run answer turns_within
+shifts = refl
+
+--     z = "a" + "b"
+abbrev joins_texts_module : Module
+joins_texts_module = record {
+  body = stmt (statement (tree.assign (expr (node (tree.name 0) 1 0) no_exprs) (node (tree.binary bin.Add (node (tree.literal (lit.Str false)) 1 1) (node (tree.literal (lit.Str false)) 1 2)) 1 3)) 1) no_stmts;
+  names = codes "z" ∷ [];
+}
+
+joins_texts : run joins_texts_module [] 0 (0 ∷ 3 ∷ []) ([]) ≡ record {
+  events = event.held 0 (text false) ∷ [];
+  heap = [];
+  ending = ended;
+}
+unfolding run answer turns_within
+joins_texts = refl
+
+--     z = 2 * "a"
+abbrev repeats_a_text_module : Module
+repeats_a_text_module = record {
+  body = stmt (statement (tree.assign (expr (node (tree.name 0) 1 0) no_exprs) (node (tree.binary bin.Mul (node (tree.literal (lit.Int false 2)) 1 1) (node (tree.literal (lit.Str false)) 1 2)) 1 3)) 1) no_stmts;
+  names = codes "z" ∷ [];
+}
+
+repeats_a_text : run repeats_a_text_module [] 0 (0 ∷ 4 ∷ []) ([]) ≡ record {
+  events = event.held 0 (text true) ∷ [];
+  heap = [];
+  ending = ended;
+}
+unfolding run answer turns_within
+repeats_a_text = refl
+
+--     z = b"a" % 3
+abbrev formats_bytes_module : Module
+formats_bytes_module = record {
+  body = stmt (statement (tree.assign (expr (node (tree.name 0) 1 0) no_exprs) (node (tree.binary bin.Mod (node (tree.literal (lit.Bytes false)) 1 1) (node (tree.literal (lit.Int false 3)) 1 2)) 1 3)) 1) no_stmts;
+  names = codes "z" ∷ [];
+}
+
+formats_bytes : run formats_bytes_module [] 0 (0 ∷ 2 ∷ []) ([]) ≡ record {
+  events = event.held 0 (octets true) ∷ [];
+  heap = [];
+  ending = ended;
+}
+unfolding run answer turns_within
+formats_bytes = refl
+
+-- a new list, at the place of the sum
+--     z = [1] + [2]
+abbrev joins_lists_module : Module
+joins_lists_module = record {
+  body = stmt (statement (tree.assign (expr (node (tree.name 0) 1 0) no_exprs) (node (tree.binary bin.Add (node (tree.list (expr (node (tree.literal (lit.Int false 1)) 1 1) no_exprs)) 1 2) (node (tree.list (expr (node (tree.literal (lit.Int false 2)) 1 3) no_exprs)) 1 4)) 1 5)) 1) no_stmts;
+  names = codes "z" ∷ [];
+}
+
+joins_lists : run joins_lists_module [] 0 (0 ∷ []) ([]) ≡ record {
+  events = event.held 0 (ref 2) ∷ [];
+  heap = object.list 2 ((whole (pos 1)) ∷ []) ∷ object.list 4 ((whole (pos 2)) ∷ []) ∷ object.list 5 ((whole (pos 1)) ∷ (whole (pos 2)) ∷ []) ∷ [];
+  ending = ended;
+}
+unfolding run answer turns_within
+joins_lists = refl
+
+-- all parts once more as long as the choice is even
+--     z = [1, 2] * 3
+abbrev repeats_a_list_module : Module
+repeats_a_list_module = record {
+  body = stmt (statement (tree.assign (expr (node (tree.name 0) 1 0) no_exprs) (node (tree.binary bin.Mul (node (tree.list (expr (node (tree.literal (lit.Int false 1)) 1 1) (expr (node (tree.literal (lit.Int false 2)) 1 2) no_exprs))) 1 3) (node (tree.literal (lit.Int false 3)) 1 4)) 1 5)) 1) no_stmts;
+  names = codes "z" ∷ [];
+}
+
+repeats_a_list : run repeats_a_list_module [] 0 (0 ∷ 0 ∷ 2 ∷ 1 ∷ []) ([]) ≡ record {
+  events = event.held 0 (ref 1) ∷ [];
+  heap = object.list 3 ((whole (pos 1)) ∷ (whole (pos 2)) ∷ []) ∷ object.list 5 ((whole (pos 1)) ∷ (whole (pos 2)) ∷ (whole (pos 1)) ∷ (whole (pos 2)) ∷ []) ∷ [];
+  ending = ended;
+}
+unfolding run answer turns_within
+repeats_a_list = refl
+
+--     z = 3 * (1,)
+abbrev repeats_a_tuple_module : Module
+repeats_a_tuple_module = record {
+  body = stmt (statement (tree.assign (expr (node (tree.name 0) 1 0) no_exprs) (node (tree.binary bin.Mul (node (tree.literal (lit.Int false 3)) 1 1) (node (tree.tuple (expr (node (tree.literal (lit.Int false 1)) 1 2) no_exprs)) 1 3)) 1 4)) 1) no_stmts;
+  names = codes "z" ∷ [];
+}
+
+repeats_a_tuple : run repeats_a_tuple_module [] 0 (0 ∷ 1 ∷ []) ([]) ≡ record {
+  events = event.held 0 (ref 1) ∷ [];
+  heap = object.tuple 3 object.places ((whole (pos 1)) ∷ []) ∷ object.tuple 4 object.parts ([]) ∷ [];
+  ending = ended;
+}
+unfolding run answer turns_within
+repeats_a_tuple = refl
+
+--     z = 1 @ 2
+abbrev multiplies_matrices_module : Module
+multiplies_matrices_module = record {
+  body = stmt (statement (tree.assign (expr (node (tree.name 0) 1 0) no_exprs) (node (tree.binary bin.MatMul (node (tree.literal (lit.Int false 1)) 1 1) (node (tree.literal (lit.Int false 2)) 1 2)) 1 3)) 1) no_stmts;
+  names = codes "z" ∷ [];
+}
+
+multiplies_matrices : run multiplies_matrices_module [] 0 (0 ∷ []) ([]) ≡ record {
+  events = event.fault 1 event.unsupported_operands event.on_another None ∷ [];
+  heap = error (codes "TypeError") ∷ [];
+  ending = raised_out (ref 0);
+}
+unfolding run answer turns_within
+multiplies_matrices = refl
+
+--     z = 1 + "a"
+abbrev adds_a_text_to_a_number_module : Module
+adds_a_text_to_a_number_module = record {
+  body = stmt (statement (tree.assign (expr (node (tree.name 0) 1 0) no_exprs) (node (tree.binary bin.Add (node (tree.literal (lit.Int false 1)) 1 1) (node (tree.literal (lit.Str false)) 1 2)) 1 3)) 1) no_stmts;
+  names = codes "z" ∷ [];
+}
+
+adds_a_text_to_a_number : run adds_a_text_to_a_number_module [] 0 (0 ∷ []) ([]) ≡ record {
+  events = event.fault 1 event.unsupported_operands event.on_another None ∷ [];
+  heap = error (codes "TypeError") ∷ [];
+  ending = raised_out (ref 0);
+}
+unfolding run answer turns_within
+adds_a_text_to_a_number = refl
+
+--     z = -1
+abbrev negates_module : Module
+negates_module = record {
+  body = stmt (statement (tree.assign (expr (node (tree.name 0) 1 0) no_exprs) (node (tree.unary un.Minus (node (tree.literal (lit.Int false 1)) 1 1)) 1 2)) 1) no_stmts;
+  names = codes "z" ∷ [];
+}
+
+negates : run negates_module [] 0 (0 ∷ 3 ∷ []) ([]) ≡ record {
+  events = event.held 0 (whole (pos 3)) ∷ [];
+  heap = [];
+  ending = ended;
+}
+unfolding run answer turns_within
+negates = refl
+
+--     z = ~True
+abbrev inverts_module : Module
+inverts_module = record {
+  body = stmt (statement (tree.assign (expr (node (tree.name 0) 1 0) no_exprs) (node (tree.unary un.Invert (node (tree.literal lit.TrueValue) 1 1)) 1 2)) 1) no_stmts;
+  names = codes "z" ∷ [];
+}
+
+inverts : run inverts_module [] 0 (0 ∷ 3 ∷ []) ([]) ≡ record {
+  events = event.held 0 (whole (pos 3)) ∷ [];
+  heap = [];
+  ending = ended;
+}
+unfolding run answer turns_within
+inverts = refl
+
+--     z = -"a"
+abbrev negates_a_text_module : Module
+negates_a_text_module = record {
+  body = stmt (statement (tree.assign (expr (node (tree.name 0) 1 0) no_exprs) (node (tree.unary un.Minus (node (tree.literal (lit.Str false)) 1 1)) 1 2)) 1) no_stmts;
+  names = codes "z" ∷ [];
+}
+
+negates_a_text : run negates_a_text_module [] 0 (0 ∷ []) ([]) ≡ record {
+  events = event.fault 1 event.unsupported_operands event.on_another None ∷ [];
+  heap = error (codes "TypeError") ∷ [];
+  ending = raised_out (ref 0);
+}
+unfolding run answer turns_within
+negates_a_text = refl
+
+-- `not` may not raise, and takes no choice here
+--     z = not 0
+--     y = not "a"
+abbrev denies_module : Module
+denies_module = record {
+  body = stmt (statement (tree.assign (expr (node (tree.name 0) 1 0) no_exprs) (node (tree.not (node (tree.literal (lit.Int false 0)) 1 1)) 1 2)) 1) (stmt (statement (tree.assign (expr (node (tree.name 1) 2 3) no_exprs) (node (tree.not (node (tree.literal (lit.Str false)) 2 4)) 2 5)) 2) no_stmts);
+  names = codes "z" ∷ codes "y" ∷ [];
+}
+
+denies : run denies_module [] 0 ([]) ([]) ≡ record {
+  events = event.held 1 (truth false) ∷ event.held 0 (truth true) ∷ [];
+  heap = [];
+  ending = ended;
+}
+unfolding run answer turns_within
+denies = refl
+
+--     z = 1 < 2.0
+abbrev compares_numbers_module : Module
+compares_numbers_module = record {
+  body = stmt (statement (tree.assign (expr (node (tree.name 0) 1 0) no_exprs) (node (tree.compare cmp.Less (node (tree.literal (lit.Int false 1)) 1 1) (node (tree.literal lit.Float) 1 2)) 1 3)) 1) no_stmts;
+  names = codes "z" ∷ [];
+}
+
+compares_numbers : run compares_numbers_module [] 0 (0 ∷ 0 ∷ []) ([]) ≡ record {
+  events = event.held 0 (truth true) ∷ [];
+  heap = [];
+  ending = ended;
+}
+unfolding run answer turns_within
+compares_numbers = refl
+
+--     z = 1 < "a"
+abbrev compares_a_number_with_a_text_module : Module
+compares_a_number_with_a_text_module = record {
+  body = stmt (statement (tree.assign (expr (node (tree.name 0) 1 0) no_exprs) (node (tree.compare cmp.Less (node (tree.literal (lit.Int false 1)) 1 1) (node (tree.literal (lit.Str false)) 1 2)) 1 3)) 1) no_stmts;
+  names = codes "z" ∷ [];
+}
+
+compares_a_number_with_a_text : run compares_a_number_with_a_text_module [] 0 (0 ∷ []) ([]) ≡ record {
+  events = event.fault 1 event.unsupported_operands event.on_another None ∷ [];
+  heap = error (codes "TypeError") ∷ [];
+  ending = raised_out (ref 0);
+}
+unfolding run answer turns_within
+compares_a_number_with_a_text = refl
+
+--     z = 1 == "a"
+abbrev compares_for_equality_module : Module
+compares_for_equality_module = record {
+  body = stmt (statement (tree.assign (expr (node (tree.name 0) 1 0) no_exprs) (node (tree.compare cmp.Equal (node (tree.literal (lit.Int false 1)) 1 1) (node (tree.literal (lit.Str false)) 1 2)) 1 3)) 1) no_stmts;
+  names = codes "z" ∷ [];
+}
+
+compares_for_equality : run compares_for_equality_module [] 0 (0 ∷ 1 ∷ []) ([]) ≡ record {
+  events = event.held 0 (truth false) ∷ [];
+  heap = [];
+  ending = ended;
+}
+unfolding run answer turns_within
+compares_for_equality = refl
+
+--     z = None is None
+--     y = 1 is None
+--     x = None is not None
+abbrev is_none_module : Module
+is_none_module = record {
+  body = stmt (statement (tree.assign (expr (node (tree.name 0) 1 0) no_exprs) (node (tree.compare cmp.Is (node (tree.literal lit.NoneValue) 1 1) (node (tree.literal lit.NoneValue) 1 2)) 1 3)) 1) (stmt (statement (tree.assign (expr (node (tree.name 1) 2 4) no_exprs) (node (tree.compare cmp.Is (node (tree.literal (lit.Int false 1)) 2 5) (node (tree.literal lit.NoneValue) 2 6)) 2 7)) 2) (stmt (statement (tree.assign (expr (node (tree.name 2) 3 8) no_exprs) (node (tree.compare cmp.IsNot (node (tree.literal lit.NoneValue) 3 9) (node (tree.literal lit.NoneValue) 3 10)) 3 11)) 3) no_stmts));
+  names = codes "z" ∷ codes "y" ∷ codes "x" ∷ [];
+}
+
+is_none : run is_none_module [] 0 (0 ∷ 0 ∷ 0 ∷ []) ([]) ≡ record {
+  events = event.held 2 (truth false) ∷ event.held 1 (truth false) ∷ event.held 0 (truth true) ∷ [];
+  heap = [];
+  ending = ended;
+}
+unfolding run answer turns_within
+is_none = refl
+
+-- of numbers it is not known
+--     z = 1 is 1
+abbrev is_the_same_number_module : Module
+is_the_same_number_module = record {
+  body = stmt (statement (tree.assign (expr (node (tree.name 0) 1 0) no_exprs) (node (tree.compare cmp.Is (node (tree.literal (lit.Int false 1)) 1 1) (node (tree.literal (lit.Int false 1)) 1 2)) 1 3)) 1) no_stmts;
+  names = codes "z" ∷ [];
+}
+
+is_the_same_number : run is_the_same_number_module [] 0 (0 ∷ 1 ∷ []) ([]) ≡ record {
+  events = event.held 0 (truth false) ∷ [];
+  heap = [];
+  ending = ended;
+}
+unfolding run answer turns_within
+is_the_same_number = refl
+
+--     z = True is True
+--     y = True is not True
+abbrev is_the_same_truth_value_module : Module
+is_the_same_truth_value_module = record {
+  body = stmt (statement (tree.assign (expr (node (tree.name 0) 1 0) no_exprs) (node (tree.compare cmp.Is (node (tree.literal lit.TrueValue) 1 1) (node (tree.literal lit.TrueValue) 1 2)) 1 3)) 1) (stmt (statement (tree.assign (expr (node (tree.name 1) 2 4) no_exprs) (node (tree.compare cmp.IsNot (node (tree.literal lit.TrueValue) 2 5) (node (tree.literal lit.TrueValue) 2 6)) 2 7)) 2) no_stmts);
+  names = codes "z" ∷ codes "y" ∷ [];
+}
+
+is_the_same_truth_value : run is_the_same_truth_value_module [] 0 (0 ∷ 0 ∷ []) ([]) ≡ record {
+  events = event.held 1 (truth false) ∷ event.held 0 (truth true) ∷ [];
+  heap = [];
+  ending = ended;
+}
+unfolding run answer turns_within
+is_the_same_truth_value = refl
+
+--     z = 1 in [2]
+--     y = "a" not in "b"
+abbrev is_within_module : Module
+is_within_module = record {
+  body = stmt (statement (tree.assign (expr (node (tree.name 0) 1 0) no_exprs) (node (tree.compare cmp.Within (node (tree.literal (lit.Int false 1)) 1 1) (node (tree.list (expr (node (tree.literal (lit.Int false 2)) 1 2) no_exprs)) 1 3)) 1 4)) 1) (stmt (statement (tree.assign (expr (node (tree.name 1) 2 5) no_exprs) (node (tree.compare cmp.NotWithin (node (tree.literal (lit.Str false)) 2 6) (node (tree.literal (lit.Str false)) 2 7)) 2 8)) 2) no_stmts);
+  names = codes "z" ∷ codes "y" ∷ [];
+}
+
+is_within : run is_within_module [] 0 (0 ∷ 1 ∷ 0 ∷ 0 ∷ []) ([]) ≡ record {
+  events = event.held 1 (truth true) ∷ event.held 0 (truth false) ∷ [];
+  heap = object.list 3 ((whole (pos 2)) ∷ []) ∷ [];
+  ending = ended;
+}
+unfolding run answer turns_within
+is_within = refl
+
+--     z = "a" in b"x"
+abbrev is_within_bytes_module : Module
+is_within_bytes_module = record {
+  body = stmt (statement (tree.assign (expr (node (tree.name 0) 1 0) no_exprs) (node (tree.compare cmp.Within (node (tree.literal (lit.Str false)) 1 1) (node (tree.literal (lit.Bytes false)) 1 2)) 1 3)) 1) no_stmts;
+  names = codes "z" ∷ [];
+}
+
+is_within_bytes : run is_within_bytes_module [] 0 (0 ∷ []) ([]) ≡ record {
+  events = event.fault 1 event.unsupported_operands event.on_another None ∷ [];
+  heap = error (codes "TypeError") ∷ [];
+  ending = raised_out (ref 0);
+}
+unfolding run answer turns_within
+is_within_bytes = refl
+
+-- `and` and `or` give one of their operands, and the second isn't evaluated where the first decides
+--     z = 0 or "t"
+--     y = 1 and None
+--     x = 2 or nope
+abbrev gives_an_operand_module : Module
+gives_an_operand_module = record {
+  body = stmt (statement (tree.assign (expr (node (tree.name 0) 1 0) no_exprs) (node (tree.or (node (tree.literal (lit.Int false 0)) 1 1) (node (tree.literal (lit.Str false)) 1 2)) 1 3)) 1) (stmt (statement (tree.assign (expr (node (tree.name 1) 2 4) no_exprs) (node (tree.and (node (tree.literal (lit.Int false 1)) 2 5) (node (tree.literal lit.NoneValue) 2 6)) 2 7)) 2) (stmt (statement (tree.assign (expr (node (tree.name 2) 3 8) no_exprs) (node (tree.or (node (tree.literal (lit.Int false 2)) 3 9) (node (tree.name 3) 3 10)) 3 11)) 3) no_stmts));
+  names = codes "z" ∷ codes "y" ∷ codes "x" ∷ codes "nope" ∷ [];
+}
+
+gives_an_operand : run gives_an_operand_module [] 0 ([]) ([]) ≡ record {
+  events = event.held 2 (whole (pos 2)) ∷ event.held 1 none ∷ event.held 0 (text false) ∷ [];
+  heap = [];
+  ending = ended;
+}
+unfolding run answer turns_within
+gives_an_operand = refl
+
+-- the truth of a float is a choice
+--     z = 1 if 1.5 else 2
+abbrev chooses_by_a_float_module : Module
+chooses_by_a_float_module = record {
+  body = stmt (statement (tree.assign (expr (node (tree.name 0) 1 0) no_exprs) (node (tree.choice (node (tree.literal (lit.Int false 1)) 1 1) (node (tree.literal lit.Float) 1 2) (node (tree.literal (lit.Int false 2)) 1 3)) 1 4)) 1) no_stmts;
+  names = codes "z" ∷ [];
+}
+
+chooses_by_a_float : run chooses_by_a_float_module [] 0 (1 ∷ []) ([]) ≡ record {
+  events = event.held 0 (whole (pos 1)) ∷ [];
+  heap = [];
+  ending = ended;
+}
+unfolding run answer turns_within
+chooses_by_a_float = refl
+
+-- the choice 63 + 64 * 35 raises the class of number 35 mod 34; that is no event
+--     z = 1 + 1
+abbrev raises_by_choice_module : Module
+raises_by_choice_module = record {
+  body = stmt (statement (tree.assign (expr (node (tree.name 0) 1 0) no_exprs) (node (tree.binary bin.Add (node (tree.literal (lit.Int false 1)) 1 1) (node (tree.literal (lit.Int false 1)) 1 2)) 1 3)) 1) no_stmts;
+  names = codes "z" ∷ [];
+}
+
+raises_by_choice : run raises_by_choice_module [] 0 (2303 ∷ []) ([]) ≡ record {
+  events = [];
+  heap = error (codes "SystemExit") ∷ [];
+  ending = raised_out (ref 0);
+}
+unfolding run answer turns_within
+raises_by_choice = refl
+
+-- nothing is known of a name that isn't bound, nor of a sum with it
+--     z = nope + 1
+abbrev adds_to_anything_module : Module
+adds_to_anything_module = record {
+  body = stmt (statement (tree.assign (expr (node (tree.name 0) 1 0) no_exprs) (node (tree.binary bin.Add (node (tree.name 1) 1 1) (node (tree.literal (lit.Int false 1)) 1 2)) 1 3)) 1) no_stmts;
+  names = codes "z" ∷ codes "nope" ∷ [];
+}
+
+adds_to_anything : run adds_to_anything_module [] 0 (0 ∷ 0 ∷ []) ([]) ≡ record {
+  events = event.held 0 (ref 1) ∷ [];
+  heap = anything ∷ anything ∷ [];
+  ending = ended;
+}
+unfolding run answer turns_within
+adds_to_anything = refl
+
+--     z = nope == 1
+--     y = nope < 1
+abbrev compares_with_anything_module : Module
+compares_with_anything_module = record {
+  body = stmt (statement (tree.assign (expr (node (tree.name 0) 1 0) no_exprs) (node (tree.compare cmp.Equal (node (tree.name 1) 1 1) (node (tree.literal (lit.Int false 1)) 1 2)) 1 3)) 1) (stmt (statement (tree.assign (expr (node (tree.name 2) 2 4) no_exprs) (node (tree.compare cmp.Less (node (tree.name 1) 2 5) (node (tree.literal (lit.Int false 1)) 2 6)) 2 7)) 2) no_stmts);
+  names = codes "z" ∷ codes "nope" ∷ codes "y" ∷ [];
+}
+
+compares_with_anything : run compares_with_anything_module [] 0 (0 ∷ 0 ∷ 1 ∷ 0 ∷ 0 ∷ []) ([]) ≡ record {
+  events = event.held 2 (ref 2) ∷ event.held 0 (truth false) ∷ [];
+  heap = anything ∷ anything ∷ anything ∷ [];
+  ending = ended;
+}
+unfolding run answer turns_within
+compares_with_anything = refl
+
+--     x = 1
+--     x += 2
+abbrev adds_in_place_module : Module
+adds_in_place_module = record {
+  body = stmt (statement (tree.assign (expr (node (tree.name 0) 1 0) no_exprs) (node (tree.literal (lit.Int false 1)) 1 1)) 1) (stmt (statement (tree.augment (node (tree.name 0) 2 2) bin.Add (node (tree.literal (lit.Int false 2)) 2 3)) 2) no_stmts);
+  names = codes "x" ∷ [];
+}
+
+adds_in_place : run adds_in_place_module [] 0 (0 ∷ 0 ∷ 8 ∷ []) ([]) ≡ record {
+  events = event.held 0 (whole (pos 8)) ∷ [];
+  heap = [];
+  ending = ended;
+}
+unfolding run answer turns_within
+adds_in_place = refl
+
+-- the list itself grows
+--     xs = [1]
+--     ys = xs
+--     xs += "a"
+abbrev extends_in_place_module : Module
+extends_in_place_module = record {
+  body = stmt (statement (tree.assign (expr (node (tree.name 0) 1 0) no_exprs) (node (tree.list (expr (node (tree.literal (lit.Int false 1)) 1 1) no_exprs)) 1 2)) 1) (stmt (statement (tree.assign (expr (node (tree.name 1) 2 3) no_exprs) (node (tree.name 0) 2 4)) 2) (stmt (statement (tree.augment (node (tree.name 0) 3 5) bin.Add (node (tree.literal (lit.Str false)) 3 6)) 3) no_stmts));
+  names = codes "xs" ∷ codes "ys" ∷ [];
+}
+
+extends_in_place : run extends_in_place_module [] 0 (0 ∷ 0 ∷ 0 ∷ 0 ∷ 2 ∷ 1 ∷ []) ([]) ≡ record {
+  events = event.held 0 (ref 0) ∷ event.held 1 (ref 0) ∷ [];
+  heap = object.list 2 ((whole (pos 1)) ∷ (text true) ∷ []) ∷ [];
+  ending = ended;
+}
+unfolding run answer turns_within
+extends_in_place = refl
+
+--     xs = [1]
+--     xs += 3
+abbrev extends_by_a_number_module : Module
+extends_by_a_number_module = record {
+  body = stmt (statement (tree.assign (expr (node (tree.name 0) 1 0) no_exprs) (node (tree.list (expr (node (tree.literal (lit.Int false 1)) 1 1) no_exprs)) 1 2)) 1) (stmt (statement (tree.augment (node (tree.name 0) 2 3) bin.Add (node (tree.literal (lit.Int false 3)) 2 4)) 2) no_stmts);
+  names = codes "xs" ∷ [];
+}
+
+extends_by_a_number : run extends_by_a_number_module [] 0 (0 ∷ 0 ∷ []) ([]) ≡ record {
+  events = event.fault 2 event.not_iterable event.on_another None ∷ [];
+  heap = object.list 2 ((whole (pos 1)) ∷ []) ∷ error (codes "TypeError") ∷ [];
+  ending = raised_out (ref 1);
+}
+unfolding run answer turns_within
+extends_by_a_number = refl
+
+--     xs = [1]
+--     xs *= 2
+abbrev repeats_in_place_module : Module
+repeats_in_place_module = record {
+  body = stmt (statement (tree.assign (expr (node (tree.name 0) 1 0) no_exprs) (node (tree.list (expr (node (tree.literal (lit.Int false 1)) 1 1) no_exprs)) 1 2)) 1) (stmt (statement (tree.augment (node (tree.name 0) 2 3) bin.Mul (node (tree.literal (lit.Int false 2)) 2 4)) 2) no_stmts);
+  names = codes "xs" ∷ [];
+}
+
+repeats_in_place : run repeats_in_place_module [] 0 (0 ∷ 0 ∷ 0 ∷ 0 ∷ 1 ∷ []) ([]) ≡ record {
+  events = event.held 0 (ref 0) ∷ [];
+  heap = object.list 2 ((whole (pos 1)) ∷ (whole (pos 1)) ∷ []) ∷ [];
+  ending = ended;
+}
+unfolding run answer turns_within
+repeats_in_place = refl

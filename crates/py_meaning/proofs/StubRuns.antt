@@ -1,0 +1,421 @@
+-- Runs with stubs, and with calls from outside, computed.
+use Rattle.std.specs.Prelude.{◌≡◌, pos, true, false, [], ◌∷◌, Some, None, refl, codes}
+use Rattle.place_ids.specs.declared.operators.BinOp.TheVariants as bin
+use Rattle.place_ids.specs.declared.operators.CompareOp.TheVariants as cmp
+use Rattle.py_tree.specs.declared.literal.Literal.TheVariants as lit
+use Rattle.type_terms.specs.Terms as term
+use Rattle.type_terms.specs.Stubs.{Stub}
+use Rattle.py_tree.specs.Tree as tree
+use Rattle.py_tree.specs.Tree.{Module, Param, node, Exprs, no_exprs, expr, no_bound, bound, no_args, arg, no_pairs, pair, statement, no_stmts, stmt, no_arms, arm, no_handlers, handler, fun_def, class_def, no_members, member}
+use Rattle.py_meaning.specs.Values.{none, truth, whole, float, text, ref}
+use Rattle.py_meaning.specs.Objects as object
+use Rattle.py_meaning.specs.Events as event
+use Rattle.py_meaning.specs.Actions.{calls_function, calls_class}
+use Rattle.py_meaning.specs.Runs.{turns_within, answer, ended, raised_out, ran_out_of_turns, run}
+use Rattle.py_meaning.proofs.Samples.{param}
+use Rattle.builtin_stubs.specs.declared.basic.Basic.TheVariants as kind
+use Rattle.py_meaning.proofs.Samples.{native, method, error, anything}
+
+-- class Price: has units: int, a method twice that gives int or str, and __init__ with units and code
+-- class Wrong(KeyError)
+-- rate: int, prices: List[Price], pair: Tuple[int, str], get: Callable[..., float], kind: Type[Price]
+-- def total(prices: List[Price]) -> Price
+abbrev money : Stub
+money = record {
+  names = record { name = codes "rate"; term = term.int } ∷ record { name = codes "prices"; term = term.list (term.class (codes "Price")) }
+      ∷ record { name = codes "pair"; term = term.tuple (term.term term.int (term.term term.str term.no_terms)) }
+      ∷ record { name = codes "get"; term = term.callable term.float } ∷ record { name = codes "kind"; term = term.class_of (codes "Price") } ∷ [];
+  funs = record { name = codes "total"; params = record { name = codes "prices"; term = term.list (term.class (codes "Price")); has_default = false } ∷ []; answer = term.class (codes "Price") } ∷ [];
+  classes = record {
+    name = codes "Price";
+    base = None;
+    names = record { name = codes "units"; term = term.int } ∷ [];
+    funs = record {
+      name = codes "__init__";
+      params = record { name = codes "self"; term = term.any; has_default = false } ∷ record { name = codes "units"; term = term.int; has_default = false } ∷ record { name = codes "code"; term = term.str; has_default = false } ∷ [];
+      answer = term.none;
+    }
+        ∷ record { name = codes "twice"; params = record { name = codes "self"; term = term.any; has_default = false } ∷ []; answer = term.union (term.term term.int (term.term term.str term.no_terms)) } ∷ [];
+  }
+      ∷ record { name = codes "Wrong"; base = Some (codes "KeyError"); names = []; funs = [] } ∷ [];
+}
+
+--     import money
+--     x = money.rate
+abbrev reads_a_name_of_a_stub_module : Module
+reads_a_name_of_a_stub_module = record {
+  body = stmt (statement (tree.import (record { path = (0 ∷ []); alias = None } ∷ [])) 1) (stmt (statement (tree.assign (expr (node (tree.name 1) 2 0) no_exprs) (node (tree.attr (node (tree.name 0) 2 1) 2) 2 2)) 2) no_stmts);
+  names = codes "money" ∷ codes "x" ∷ codes "rate" ∷ [];
+}
+
+reads_a_name_of_a_stub : run reads_a_name_of_a_stub_module ((codes "money", money) ∷ []) 0 (0 ∷ 0 ∷ 0 ∷ 4 ∷ []) ([]) ≡ record {
+  events = event.held 1 (whole (pos 4)) ∷ [];
+  heap = object.imported (codes "money") ∷ [];
+  ending = ended;
+}
+unfolding run answer turns_within
+reads_a_name_of_a_stub = refl
+
+--     import money
+--     x = money.nope
+abbrev reads_what_a_stub_lacks_module : Module
+reads_what_a_stub_lacks_module = record {
+  body = stmt (statement (tree.import (record { path = (0 ∷ []); alias = None } ∷ [])) 1) (stmt (statement (tree.assign (expr (node (tree.name 1) 2 0) no_exprs) (node (tree.attr (node (tree.name 0) 2 1) 2) 2 2)) 2) no_stmts);
+  names = codes "money" ∷ codes "x" ∷ codes "nope" ∷ [];
+}
+
+reads_what_a_stub_lacks : run reads_what_a_stub_lacks_module ((codes "money", money) ∷ []) 0 (0 ∷ 0 ∷ 0 ∷ []) ([]) ≡ record {
+  events = event.fault 2 event.attribute_error event.on_another (Some 2) ∷ [];
+  heap = object.imported (codes "money") ∷ error (codes "AttributeError") ∷ [];
+  ending = raised_out (ref 1);
+}
+unfolding run answer turns_within
+reads_what_a_stub_lacks = refl
+
+--     import os
+--     x = os.getcwd()
+abbrev imports_what_has_no_stub_module : Module
+imports_what_has_no_stub_module = record {
+  body = stmt (statement (tree.import (record { path = (0 ∷ []); alias = None } ∷ [])) 1) (stmt (statement (tree.assign (expr (node (tree.name 1) 2 0) no_exprs) (node (tree.call (node (tree.attr (node (tree.name 0) 2 1) 2) 2 2) no_args) 2 3)) 2) no_stmts);
+  names = codes "os" ∷ codes "x" ∷ codes "getcwd" ∷ [];
+}
+
+imports_what_has_no_stub : run imports_what_has_no_stub_module ((codes "money", money) ∷ []) 1 (0 ∷ 0 ∷ 0 ∷ 0 ∷ []) ([]) ≡ record {
+  events = event.held 1 (ref 2) ∷ [];
+  heap = anything ∷ anything ∷ anything ∷ [];
+  ending = ended;
+}
+unfolding run answer turns_within
+imports_what_has_no_stub = refl
+
+--     import a.b as c
+--     import money as m
+--     x = m.rate
+abbrev imports_under_another_name_module : Module
+imports_under_another_name_module = record {
+  body = stmt (statement (tree.import (record { path = (0 ∷ 1 ∷ []); alias = Some 2 } ∷ [])) 1) (stmt (statement (tree.import (record { path = (3 ∷ []); alias = Some 4 } ∷ [])) 2) (stmt (statement (tree.assign (expr (node (tree.name 5) 3 0) no_exprs) (node (tree.attr (node (tree.name 4) 3 1) 6) 3 2)) 3) no_stmts));
+  names = codes "a" ∷ codes "b" ∷ codes "c" ∷ codes "money" ∷ codes "m" ∷ codes "x" ∷ codes "rate" ∷ [];
+}
+
+imports_under_another_name : run imports_under_another_name_module ((codes "money", money) ∷ (codes "a.b", money) ∷ []) 0 (0 ∷ 0 ∷ 0 ∷ 0 ∷ 9 ∷ []) ([]) ≡ record {
+  events = event.held 5 (whole (pos 9)) ∷ [];
+  heap = object.imported (codes "a.b") ∷ object.imported (codes "money") ∷ [];
+  ending = ended;
+}
+unfolding run answer turns_within
+imports_under_another_name = refl
+
+--     from money import Price, total, nope
+abbrev takes_from_a_stub_module : Module
+takes_from_a_stub_module = record {
+  body = stmt (statement (tree.from (0 ∷ []) (record { name = 1; alias = None } ∷ record { name = 2; alias = None } ∷ record { name = 3; alias = None } ∷ [])) 1) no_stmts;
+  names = codes "money" ∷ codes "Price" ∷ codes "total" ∷ codes "nope" ∷ [];
+}
+
+takes_from_a_stub : run takes_from_a_stub_module ((codes "money", money) ∷ []) 0 (0 ∷ 0 ∷ 0 ∷ []) ([]) ≡ record {
+  events = [];
+  heap = object.foreign (object.stub_class (codes "money") (codes "Price")) ∷ object.foreign (object.stub_fun (codes "money") (codes "total")) ∷ anything ∷ [];
+  ending = ended;
+}
+unfolding run answer turns_within
+takes_from_a_stub = refl
+
+--     from money import Price
+--     p = Price(1, code="EUR")
+--     u = p.units
+abbrev makes_a_stub_instance_module : Module
+makes_a_stub_instance_module = record {
+  body = stmt (statement (tree.from (0 ∷ []) (record { name = 1; alias = None } ∷ [])) 1) (stmt (statement (tree.assign (expr (node (tree.name 2) 2 0) no_exprs) (node (tree.call (node (tree.name 1) 2 1) (arg None (node (tree.literal (lit.Int false 1)) 2 2) (arg (Some 3) (node (tree.literal (lit.Str false)) 2 3) no_args))) 2 4)) 2) (stmt (statement (tree.assign (expr (node (tree.name 4) 3 5) no_exprs) (node (tree.attr (node (tree.name 2) 3 6) 5) 3 7)) 3) no_stmts));
+  names = codes "money" ∷ codes "Price" ∷ codes "p" ∷ codes "code" ∷ codes "u" ∷ codes "units" ∷ [];
+}
+
+makes_a_stub_instance : run makes_a_stub_instance_module ((codes "money", money) ∷ []) 1 (0 ∷ 0 ∷ 0 ∷ 0 ∷ 0 ∷ 7 ∷ []) ([]) ≡ record {
+  events = event.held 2 (ref 1) ∷ event.held 4 (whole (pos 7)) ∷ [];
+  heap = object.foreign (object.stub_class (codes "money") (codes "Price")) ∷ object.outside (term.class (codes "money.Price")) ∷ [];
+  ending = ended;
+}
+unfolding run answer turns_within
+makes_a_stub_instance = refl
+
+--     from money import Price
+--     p = Price(1)
+abbrev makes_a_stub_instance_of_too_little_module : Module
+makes_a_stub_instance_of_too_little_module = record {
+  body = stmt (statement (tree.from (0 ∷ []) (record { name = 1; alias = None } ∷ [])) 1) (stmt (statement (tree.assign (expr (node (tree.name 2) 2 0) no_exprs) (node (tree.call (node (tree.name 1) 2 1) (arg None (node (tree.literal (lit.Int false 1)) 2 2) no_args)) 2 3)) 2) no_stmts);
+  names = codes "money" ∷ codes "Price" ∷ codes "p" ∷ [];
+}
+
+makes_a_stub_instance_of_too_little : run makes_a_stub_instance_of_too_little_module ((codes "money", money) ∷ []) 1 (0 ∷ 0 ∷ 0 ∷ []) ([]) ≡ record {
+  events = event.fault 2 event.missing_parameter event.on_another None ∷ [];
+  heap = object.foreign (object.stub_class (codes "money") (codes "Price")) ∷ error (codes "TypeError") ∷ [];
+  ending = raised_out (ref 1);
+}
+unfolding run answer turns_within
+makes_a_stub_instance_of_too_little = refl
+
+-- the result is a union, whose member a choice picks: of int and str the second
+--     from money import Price
+--     def f(p):
+--         return p.twice()
+--     x = f(Price(1, "E"))
+abbrev calls_a_stub_method_module : Module
+calls_a_stub_method_module = record {
+  body = stmt (statement (tree.from (0 ∷ []) (record { name = 1; alias = None } ∷ [])) 1) (stmt (statement (tree.def (fun_def 0 2 (param 3 None ∷ []) (stmt (statement (tree.return (Some (node (tree.call (node (tree.attr (node (tree.name 3) 3 0) 4) 3 1) no_args) 3 2))) 3) no_stmts) 2)) 2) (stmt (statement (tree.assign (expr (node (tree.name 5) 4 3) no_exprs) (node (tree.call (node (tree.name 2) 4 4) (arg None (node (tree.call (node (tree.name 1) 4 5) (arg None (node (tree.literal (lit.Int false 1)) 4 6) (arg None (node (tree.literal (lit.Str false)) 4 7) no_args))) 4 8) no_args)) 4 9)) 4) no_stmts));
+  names = codes "money" ∷ codes "Price" ∷ codes "f" ∷ codes "p" ∷ codes "twice" ∷ codes "x" ∷ [];
+}
+
+calls_a_stub_method : run calls_a_stub_method_module ((codes "money", money) ∷ []) 3 (0 ∷ 0 ∷ 0 ∷ 0 ∷ 0 ∷ 0 ∷ 0 ∷ 0 ∷ 1 ∷ 5 ∷ []) ([]) ≡ record {
+  events = event.returned 0 (text false) ∷ event.held 5 (text false) ∷ [];
+  heap = object.foreign (object.stub_class (codes "money") (codes "Price")) ∷ object.function 0 ∷ object.outside (term.class (codes "money.Price")) ∷ object.bound_foreign (ref 2) (object.stub_method (codes "money") (codes "Price") (codes "twice")) ∷ [];
+  ending = ended;
+}
+unfolding run answer turns_within
+calls_a_stub_method = refl
+
+-- the stub's own class stands under its whole name
+--     from money import total
+--     x = total([])
+abbrev calls_a_stub_function_module : Module
+calls_a_stub_function_module = record {
+  body = stmt (statement (tree.from (0 ∷ []) (record { name = 1; alias = None } ∷ [])) 1) (stmt (statement (tree.assign (expr (node (tree.name 2) 2 0) no_exprs) (node (tree.call (node (tree.name 1) 2 1) (arg None (node (tree.list no_exprs) 2 2) no_args)) 2 3)) 2) no_stmts);
+  names = codes "money" ∷ codes "total" ∷ codes "x" ∷ [];
+}
+
+calls_a_stub_function : run calls_a_stub_function_module ((codes "money", money) ∷ []) 1 (0 ∷ 0 ∷ 0 ∷ []) ([]) ≡ record {
+  events = event.held 2 (ref 2) ∷ [];
+  heap = object.foreign (object.stub_fun (codes "money") (codes "total")) ∷ object.list 2 ([]) ∷ object.outside (term.class (codes "money.Price")) ∷ [];
+  ending = ended;
+}
+unfolding run answer turns_within
+calls_a_stub_function = refl
+
+--     from money import total
+--     x = total([]).z
+abbrev lacks_an_attribute_of_a_stub_instance_module : Module
+lacks_an_attribute_of_a_stub_instance_module = record {
+  body = stmt (statement (tree.from (0 ∷ []) (record { name = 1; alias = None } ∷ [])) 1) (stmt (statement (tree.assign (expr (node (tree.name 2) 2 0) no_exprs) (node (tree.attr (node (tree.call (node (tree.name 1) 2 1) (arg None (node (tree.list no_exprs) 2 2) no_args)) 2 3) 3) 2 4)) 2) no_stmts);
+  names = codes "money" ∷ codes "total" ∷ codes "x" ∷ codes "z" ∷ [];
+}
+
+lacks_an_attribute_of_a_stub_instance : run lacks_an_attribute_of_a_stub_instance_module ((codes "money", money) ∷ []) 1 (0 ∷ 0 ∷ 0 ∷ 0 ∷ []) ([]) ≡ record {
+  events = event.fault 2 event.attribute_error event.on_another (Some 3) ∷ [];
+  heap = object.foreign (object.stub_fun (codes "money") (codes "total")) ∷ object.list 2 ([]) ∷ object.outside (term.class (codes "money.Price")) ∷ error (codes "AttributeError") ∷ [];
+  ending = raised_out (ref 3);
+}
+unfolding run answer turns_within
+lacks_an_attribute_of_a_stub_instance = refl
+
+-- each element is fresh
+--     import money
+--     for p in money.prices:
+--         pass
+abbrev iterates_a_list_from_outside_module : Module
+iterates_a_list_from_outside_module = record {
+  body = stmt (statement (tree.import (record { path = (0 ∷ []); alias = None } ∷ [])) 1) (stmt (statement (tree.for (node (tree.name 1) 2 0) (node (tree.attr (node (tree.name 0) 2 1) 2) 2 2) (stmt (statement tree.pass 3) no_stmts)) 2) no_stmts);
+  names = codes "money" ∷ codes "p" ∷ codes "prices" ∷ [];
+}
+
+iterates_a_list_from_outside : run iterates_a_list_from_outside_module ((codes "money", money) ∷ []) 1 (0 ∷ 0 ∷ 0 ∷ 0 ∷ 0 ∷ 0 ∷ 1 ∷ []) ([]) ≡ record {
+  events = event.held 1 (ref 2) ∷ [];
+  heap = object.imported (codes "money") ∷ object.outside (term.list (term.class (codes "money.Price"))) ∷ object.outside (term.class (codes "money.Price")) ∷ [];
+  ending = ended;
+}
+unfolding run answer turns_within
+iterates_a_list_from_outside = refl
+
+-- the effect is forgotten
+--     import money
+--     ps = money.prices
+--     ps.append(1)
+--     q = ps[0]
+abbrev appends_to_a_list_from_outside_module : Module
+appends_to_a_list_from_outside_module = record {
+  body = stmt (statement (tree.import (record { path = (0 ∷ []); alias = None } ∷ [])) 1) (stmt (statement (tree.assign (expr (node (tree.name 1) 2 0) no_exprs) (node (tree.attr (node (tree.name 0) 2 1) 2) 2 2)) 2) (stmt (statement (tree.expression (node (tree.call (node (tree.attr (node (tree.name 1) 3 3) 3) 3 4) (arg None (node (tree.literal (lit.Int false 1)) 3 5) no_args)) 3 6)) 3) (stmt (statement (tree.assign (expr (node (tree.name 4) 4 7) no_exprs) (node (tree.item (node (tree.name 1) 4 8) (node (tree.literal (lit.Int false 0)) 4 9)) 4 10)) 4) no_stmts)));
+  names = codes "money" ∷ codes "ps" ∷ codes "prices" ∷ codes "append" ∷ codes "q" ∷ [];
+}
+
+appends_to_a_list_from_outside : run appends_to_a_list_from_outside_module ((codes "money", money) ∷ []) 1 (0 ∷ 0 ∷ 0 ∷ 0 ∷ 0 ∷ 0 ∷ 0 ∷ 0 ∷ []) ([]) ≡ record {
+  events = event.held 1 (ref 1) ∷ event.held 4 (ref 3) ∷ [];
+  heap = object.imported (codes "money") ∷ object.outside (term.list (term.class (codes "money.Price"))) ∷ method kind.List (codes "append") (ref 1) ∷ object.outside (term.class (codes "money.Price")) ∷ [];
+  ending = ended;
+}
+unfolding run answer turns_within
+appends_to_a_list_from_outside = refl
+
+-- each target takes one of the declared places
+--     import money
+--     a, b = money.pair
+abbrev unpacks_a_tuple_from_outside_module : Module
+unpacks_a_tuple_from_outside_module = record {
+  body = stmt (statement (tree.import (record { path = (0 ∷ []); alias = None } ∷ [])) 1) (stmt (statement (tree.assign (expr (node (tree.tuple (expr (node (tree.name 1) 2 0) (expr (node (tree.name 2) 2 1) no_exprs))) 2 2) no_exprs) (node (tree.attr (node (tree.name 0) 2 3) 3) 2 4)) 2) no_stmts);
+  names = codes "money" ∷ codes "a" ∷ codes "b" ∷ codes "pair" ∷ [];
+}
+
+unpacks_a_tuple_from_outside : run unpacks_a_tuple_from_outside_module ((codes "money", money) ∷ []) 0 (0 ∷ 0 ∷ 0 ∷ 0 ∷ 0 ∷ 1 ∷ 2 ∷ 0 ∷ 0 ∷ 0 ∷ 8 ∷ []) ([]) ≡ record {
+  events = event.held 1 (whole (pos 8)) ∷ event.held 2 (text true) ∷ [];
+  heap = object.imported (codes "money") ∷ object.outside (term.tuple (term.term term.int (term.term term.str term.no_terms))) ∷ [];
+  ending = ended;
+}
+unfolding run answer turns_within
+unpacks_a_tuple_from_outside = refl
+
+--     import money
+--     x = money.get()
+abbrev calls_what_a_stub_declares_callable_module : Module
+calls_what_a_stub_declares_callable_module = record {
+  body = stmt (statement (tree.import (record { path = (0 ∷ []); alias = None } ∷ [])) 1) (stmt (statement (tree.assign (expr (node (tree.name 1) 2 0) no_exprs) (node (tree.call (node (tree.attr (node (tree.name 0) 2 1) 2) 2 2) no_args) 2 3)) 2) no_stmts);
+  names = codes "money" ∷ codes "x" ∷ codes "get" ∷ [];
+}
+
+calls_what_a_stub_declares_callable : run calls_what_a_stub_declares_callable_module ((codes "money", money) ∷ []) 1 (0 ∷ 0 ∷ 0 ∷ 0 ∷ []) ([]) ≡ record {
+  events = event.held 1 float ∷ [];
+  heap = object.imported (codes "money") ∷ object.outside (term.callable term.float) ∷ [];
+  ending = ended;
+}
+unfolding run answer turns_within
+calls_what_a_stub_declares_callable = refl
+
+--     import money
+--     k = money.kind
+--     x = k(1, "E")
+abbrev reads_a_class_of_a_stub_module : Module
+reads_a_class_of_a_stub_module = record {
+  body = stmt (statement (tree.import (record { path = (0 ∷ []); alias = None } ∷ [])) 1) (stmt (statement (tree.assign (expr (node (tree.name 1) 2 0) no_exprs) (node (tree.attr (node (tree.name 0) 2 1) 2) 2 2)) 2) (stmt (statement (tree.assign (expr (node (tree.name 3) 3 3) no_exprs) (node (tree.call (node (tree.name 1) 3 4) (arg None (node (tree.literal (lit.Int false 1)) 3 5) (arg None (node (tree.literal (lit.Str false)) 3 6) no_args))) 3 7)) 3) no_stmts));
+  names = codes "money" ∷ codes "k" ∷ codes "kind" ∷ codes "x" ∷ [];
+}
+
+reads_a_class_of_a_stub : run reads_a_class_of_a_stub_module ((codes "money", money) ∷ []) 1 (0 ∷ 0 ∷ 0 ∷ 0 ∷ 0 ∷ []) ([]) ≡ record {
+  events = event.held 1 (ref 1) ∷ event.held 3 (ref 2) ∷ [];
+  heap = object.imported (codes "money") ∷ object.foreign (object.stub_class (codes "money") (codes "Price")) ∷ object.outside (term.class (codes "money.Price")) ∷ [];
+  ending = ended;
+}
+unfolding run answer turns_within
+reads_a_class_of_a_stub = refl
+
+--     from money import Wrong
+--     try:
+--         raise Wrong
+--     except LookupError as e:
+--         x = e.args
+abbrev catches_an_exception_of_a_stub_module : Module
+catches_an_exception_of_a_stub_module = record {
+  body = stmt (statement (tree.from (0 ∷ []) (record { name = 1; alias = None } ∷ [])) 1) (stmt (statement (tree.try (stmt (statement (tree.raise (Some (node (tree.name 1) 3 0)) None) 3) no_stmts) (handler (Some (node (tree.name 2) 4 1)) (Some 3) (stmt (statement (tree.assign (expr (node (tree.name 4) 5 2) no_exprs) (node (tree.attr (node (tree.name 3) 5 3) 5) 5 4)) 5) no_stmts) 4 no_handlers) no_stmts) 2) no_stmts);
+  names = codes "money" ∷ codes "Wrong" ∷ codes "LookupError" ∷ codes "e" ∷ codes "x" ∷ codes "args" ∷ [];
+}
+
+catches_an_exception_of_a_stub : run catches_an_exception_of_a_stub_module ((codes "money", money) ∷ []) 1 (0 ∷ 0 ∷ 0 ∷ 0 ∷ 0 ∷ 0 ∷ 0 ∷ 0 ∷ []) ([]) ≡ record {
+  events = event.held 4 (ref 3) ∷ [];
+  heap = object.foreign (object.stub_class (codes "money") (codes "Wrong")) ∷ object.outside (term.class (codes "money.Wrong")) ∷ native (codes "LookupError") ∷ object.outside (term.tuple_of term.any) ∷ [];
+  ending = ended;
+}
+unfolding run answer turns_within
+catches_an_exception_of_a_stub = refl
+
+--     from money import total
+--     x = total([]) + 1
+--     y = total([]) == 1
+abbrev adds_a_stub_instance_module : Module
+adds_a_stub_instance_module = record {
+  body = stmt (statement (tree.from (0 ∷ []) (record { name = 1; alias = None } ∷ [])) 1) (stmt (statement (tree.assign (expr (node (tree.name 2) 2 0) no_exprs) (node (tree.binary bin.Add (node (tree.call (node (tree.name 1) 2 1) (arg None (node (tree.list no_exprs) 2 2) no_args)) 2 3) (node (tree.literal (lit.Int false 1)) 2 4)) 2 5)) 2) (stmt (statement (tree.assign (expr (node (tree.name 3) 3 6) no_exprs) (node (tree.compare cmp.Equal (node (tree.call (node (tree.name 1) 3 7) (arg None (node (tree.list no_exprs) 3 8) no_args)) 3 9) (node (tree.literal (lit.Int false 1)) 3 10)) 3 11)) 3) no_stmts));
+  names = codes "money" ∷ codes "total" ∷ codes "x" ∷ codes "y" ∷ [];
+}
+
+adds_a_stub_instance : run adds_a_stub_instance_module ((codes "money", money) ∷ []) 2 (0 ∷ 0 ∷ 0 ∷ 0 ∷ 0 ∷ 0 ∷ 0 ∷ 1 ∷ []) ([]) ≡ record {
+  events = event.held 2 (ref 3) ∷ event.held 3 (truth false) ∷ [];
+  heap = object.foreign (object.stub_fun (codes "money") (codes "total")) ∷ object.list 2 ([]) ∷ object.outside (term.class (codes "money.Price")) ∷ anything ∷ object.list 8 ([]) ∷ object.outside (term.class (codes "money.Price")) ∷ [];
+  ending = ended;
+}
+unfolding run answer turns_within
+adds_a_stub_instance = refl
+
+-- a call from outside that raises ends that call alone; a parameter with a default may be left out
+--     def f(a):
+--         raise ValueError
+--     def g(a, b=2):
+--         return b
+abbrev returns_to_the_outside_module : Module
+returns_to_the_outside_module = record {
+  body = stmt (statement (tree.def (fun_def 0 0 (param 1 None ∷ []) (stmt (statement (tree.raise (Some (node (tree.name 2) 2 0)) None) 2) no_stmts) 1)) 1) (stmt (statement (tree.def (fun_def 1 3 (param 1 None ∷ param 4 (Some (lit.Int false 2)) ∷ []) (stmt (statement (tree.return (Some (node (tree.name 4) 4 1))) 4) no_stmts) 3)) 3) no_stmts);
+  names = codes "f" ∷ codes "a" ∷ codes "ValueError" ∷ codes "g" ∷ codes "b" ∷ [];
+}
+
+returns_to_the_outside : run returns_to_the_outside_module [] 4 (0 ∷ 0 ∷ 0 ∷ 0 ∷ 0 ∷ 0 ∷ []) (calls_function 0 [] ∷ calls_function 1 (4 ∷ []) ∷ calls_function 1 [] ∷ []) ≡ record {
+  events = event.returned 1 (whole (pos 2)) ∷ event.returned 1 (ref 7) ∷ [];
+  heap = object.function 0 ∷ object.function 1 ∷ anything ∷ native (codes "ValueError") ∷ error (codes "ValueError") ∷ anything ∷ anything ∷ anything ∷ [];
+  ending = ended;
+}
+unfolding run answer turns_within
+returns_to_the_outside = refl
+
+-- without an instance the call is passed over
+--     class C:
+--         def __init__(self, v):
+--             self.v = v
+--         def get(self):
+--             return self.v
+abbrev calls_a_method_from_outside_module : Module
+calls_a_method_from_outside_module = record {
+  body = stmt (statement (tree.class (class_def 0 0 None (member (tree.method (fun_def 0 1 (param 2 None ∷ param 3 None ∷ []) (stmt (statement (tree.assign (expr (node (tree.attr (node (tree.name 2) 3 0) 3) 3 1) no_exprs) (node (tree.name 3) 3 2)) 3) no_stmts) 2)) (member (tree.method (fun_def 1 4 (param 2 None ∷ []) (stmt (statement (tree.return (Some (node (tree.attr (node (tree.name 2) 5 3) 3) 5 4))) 5) no_stmts) 4)) no_members)) 1)) 1) no_stmts;
+  names = codes "C" ∷ codes "__init__" ∷ codes "self" ∷ codes "v" ∷ codes "get" ∷ [];
+}
+
+calls_a_method_from_outside : run calls_a_method_from_outside_module [] 2 (0 ∷ 0 ∷ 0 ∷ 0 ∷ 0 ∷ []) (calls_function 1 [] ∷ calls_class 0 [] ∷ calls_function 1 [] ∷ []) ≡ record {
+  events = event.returned 0 none ∷ event.returned 1 (ref 4) ∷ [];
+  heap = object.class 0 ((1, (ref 1)) ∷ (4, (ref 2)) ∷ []) ∷ object.function 0 ∷ object.function 1 ∷ object.instance 0 ((3, (ref 4)) ∷ []) ∷ anything ∷ [];
+  ending = ended;
+}
+unfolding run answer turns_within
+calls_a_method_from_outside = refl
+
+-- any instance by choice
+--     class C:
+--         def get(self):
+--             return self
+--     a = C()
+--     b = C()
+abbrev picks_an_instance_module : Module
+picks_an_instance_module = record {
+  body = stmt (statement (tree.class (class_def 0 0 None (member (tree.method (fun_def 0 1 (param 2 None ∷ []) (stmt (statement (tree.return (Some (node (tree.name 2) 3 0))) 3) no_stmts) 2)) no_members) 1)) 1) (stmt (statement (tree.assign (expr (node (tree.name 3) 4 1) no_exprs) (node (tree.call (node (tree.name 0) 4 2) no_args) 4 3)) 4) (stmt (statement (tree.assign (expr (node (tree.name 4) 5 4) no_exprs) (node (tree.call (node (tree.name 0) 5 5) no_args) 5 6)) 5) no_stmts));
+  names = codes "C" ∷ codes "get" ∷ codes "self" ∷ codes "a" ∷ codes "b" ∷ [];
+}
+
+picks_an_instance : run picks_an_instance_module [] 3 (0 ∷ 0 ∷ 0 ∷ 0 ∷ 1 ∷ 0 ∷ []) (calls_function 0 [] ∷ []) ≡ record {
+  events = event.held 3 (ref 2) ∷ event.held 4 (ref 3) ∷ event.returned 0 (ref 3) ∷ [];
+  heap = object.class 0 ((1, (ref 1)) ∷ []) ∷ object.function 0 ∷ object.instance 0 ([]) ∷ object.instance 0 ([]) ∷ [];
+  ending = ended;
+}
+unfolding run answer turns_within
+picks_an_instance = refl
+
+--     def f():
+--         return 1
+--     raise f
+abbrev makes_no_calls_after_an_exception_module : Module
+makes_no_calls_after_an_exception_module = record {
+  body = stmt (statement (tree.def (fun_def 0 0 ([]) (stmt (statement (tree.return (Some (node (tree.literal (lit.Int false 1)) 2 0))) 2) no_stmts) 1)) 1) (stmt (statement (tree.raise (Some (node (tree.name 0) 3 1)) None) 3) no_stmts);
+  names = codes "f" ∷ [];
+}
+
+makes_no_calls_after_an_exception : run makes_no_calls_after_an_exception_module [] 3 (0 ∷ 0 ∷ 0 ∷ 0 ∷ 0 ∷ 0 ∷ 0 ∷ 0 ∷ 0 ∷ []) (calls_function 0 [] ∷ []) ≡ record {
+  events = [];
+  heap = object.function 0 ∷ error (codes "TypeError") ∷ [];
+  ending = raised_out (ref 1);
+}
+unfolding run answer turns_within
+makes_no_calls_after_an_exception = refl
+
+--     def f():
+--         return 1
+abbrev runs_out_of_turns_in_a_call_from_outside_module : Module
+runs_out_of_turns_in_a_call_from_outside_module = record {
+  body = stmt (statement (tree.def (fun_def 0 0 ([]) (stmt (statement (tree.return (Some (node (tree.literal (lit.Int false 1)) 2 0))) 2) no_stmts) 1)) 1) no_stmts;
+  names = codes "f" ∷ [];
+}
+
+runs_out_of_turns_in_a_call_from_outside : run runs_out_of_turns_in_a_call_from_outside_module [] 1 ([]) (calls_function 0 [] ∷ calls_function 0 [] ∷ []) ≡ record {
+  events = event.returned 0 (whole (pos 1)) ∷ [];
+  heap = object.function 0 ∷ [];
+  ending = ran_out_of_turns;
+}
+unfolding run answer turns_within
+runs_out_of_turns_in_a_call_from_outside = refl
