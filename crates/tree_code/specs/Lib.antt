@@ -1,0 +1,6 @@
+pub mod Pieces
+pub mod Names
+pub mod Expressions
+pub mod Statements
+pub mod Programs
+pub mod Flows
