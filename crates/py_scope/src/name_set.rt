@@ -1,5 +1,5 @@
 //! Sets of names.
-ghost use Rattle.std.specs.Prelude.{◌≡◌, [], OnOk, IfOk};
+ghost use Rattle.std.specs.Prelude.{◌≡◌, [], length, OnOk, IfOk};
 ghost use Rattle.scope_rules.specs.NameLists as lists;
 ghost use Rattle.scope_rules.specs.NameLists.{has_name, with_name_if, place_of};
 
@@ -59,6 +59,13 @@ impl NameSet {
         ensures { result.now ≡ self.now }
     {
         self.names.as_slice()
+    }
+
+    /// How many names there are.
+    pub fn count(&self) -> u32
+        ensures { result ≡ length self.now }
+    {
+        self.names.len() as u32
     }
 
     pub fn contains(&self, name: NameId) -> bool

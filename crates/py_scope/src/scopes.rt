@@ -1,5 +1,5 @@
 //! What a module's names stand for.
-ghost use Rattle.std.specs.Prelude.{◌≡◌, ◌++◌, option_map, OnOk, IfOk};
+ghost use Rattle.std.specs.Prelude.{◌≡◌, ◌++◌, length, option_map, slice_get, OnOk, IfOk};
 ghost use Rattle.scope_rules.specs.NameLists.{has_name};
 ghost use Rattle.scope_rules.specs.Scoped as spec;
 
@@ -47,6 +47,14 @@ impl Scopes {
     {
         let names = self.locals.get(fun.number() as usize)?;
         names.place(name)
+    }
+
+    /// How many names a function binds, its parameters among them.
+    pub fn local_count(&self, fun: FunId) -> Option<u32>
+        ensures { result ≡ option_map length (slice_get self.now.locals fun) }
+    {
+        let row = self.locals.get(fun.number() as usize)?;
+        Some(row.count())
     }
 
     /// Whether the module binds a name.

@@ -67,6 +67,18 @@ fn locals_are_numbered_from_the_parameters_on(rt: HostRuntime) -> Result<(), Fai
 }
 
 #[test]
+fn locals_are_counted_with_the_parameters(rt: HostRuntime) -> Result<(), Fail> {
+    let told = make(rt.alloc())?;
+    let counts = [
+        told.scopes.local_count(FunId::new(0)),
+        told.scopes.local_count(FunId::new(1)),
+        told.scopes.local_count(FunId::new(2)),
+    ];
+    assert_eq!(rt; counts, [Some(3), Some(1), None]);
+    Ok(())
+}
+
+#[test]
 fn a_module_binds_its_own_names(rt: HostRuntime) -> Result<(), Fail> {
     let told = make(rt.alloc())?;
     let bound = [
