@@ -1,6 +1,7 @@
 -- How a call ends, by what it asks for.
 use Rattle.std.proofs.Common.{◌≡◌, ℕ, ◌⊎◌, inl, inr, List, [], ◌∷◌, codes, Option, Some, None, IfSome, IsSomeAnd, sym, ap, ◌∙◌, subst}
 use Rattle.outside_io.specs.Outside.{Files, Rose}
+use Rattle.py_descent.specs.Laws.{IsComplete}
 use Rattle.py_infer.specs.declared.answer.Answer.{Answer}
 use Rattle.py_infer.specs.declared.status.Status.{Status as Ending}
 use Rattle.py_infer.specs.declared.status.Status.TheVariants as status
@@ -13,7 +14,7 @@ use Rattle.py_infer.proofs.Refusing.{OneReading, NeverBoth, holds_one}
 one_file : (words : List (List ℕ)) (file other : List ℕ) → Accepts words file → Accepts words other → file ≡ other
 one_file words file other is also = let both : codes "infer" ∷ file ∷ [] ≡ codes "infer" ∷ other ∷ [] = sym is.words_are ∙ also.words_are in cc
 
-module _ (one_reading : OneReading) (never_both : NeverBoth) (words : List (List ℕ)) (before after : ℕ) (last : Option (List ℕ)) (answer : Answer) (out note : Seen) (ending : Ending) where
+module _ (one_reading : OneReading) (never_both : NeverBoth) (complete : IsComplete) (words : List (List ℕ)) (before after : ℕ) (last : Option (List ℕ)) (answer : Answer) (out note : Seen) (ending : Ending) where
   ends_so : (state : Ending) → answer.status ≡ state → IsDelivered answer out note ending → (ending ≡ state) ⊎ (AreCut answer out note × (ending ≡ status.WriteFault))
   ends_so state same (inl (taken, ends)) = inl (ends ∙ same)
   ends_so state same (inr (cut, ends)) = inr (cut, ends)
@@ -21,12 +22,12 @@ module _ (one_reading : OneReading) (never_both : NeverBoth) (words : List (List
   holds_both : (held : Option Files) (file other report : List ℕ) (lines : List Line) → file ≡ other → IsSomeAnd held (λ files. HoldsRefused files file report) → IfSome held (λ files. HoldsModule files other lines) → ⊥
   holds_both None file other report lines same refuses holds = refuses
   holds_both (Some files) file other report lines same refuses holds =
-      holds_one one_reading never_both files other report lines (subst (λ f. HoldsRefused files f report) same refuses) holds
+      holds_one one_reading never_both complete files other report lines (subst (λ f. HoldsRefused files f report) same refuses) holds
 
   both_hold : (held : Option Files) (file other report : List ℕ) (lines : List Line) → file ≡ other → IfSome held (λ files. HoldsRefused files file report) → IsSomeAnd held (λ files. HoldsModule files other lines) → ⊥
   both_hold None file other report lines same refuses holds = holds
   both_hold (Some files) file other report lines same refuses holds =
-      holds_one one_reading never_both files other report lines (subst (λ f. HoldsRefused files f report) same refuses) holds
+      holds_one one_reading never_both complete files other report lines (subst (λ f. HoldsRefused files f report) same refuses) holds
 
   refused_end : (ending ≡ status.Refused) ⊎ (AreCut answer out note × (ending ≡ status.WriteFault)) → (ending ≡ status.Refused) ⊎ ((ending ≡ status.ReadFault) ⊎ IsCut ending)
   refused_end (inl is) = inl is

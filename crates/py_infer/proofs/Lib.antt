@@ -1,7 +1,5 @@
 pub mod TwoWords
 pub mod Rows
-pub mod Beginnings
-pub mod Spelling
 pub mod Walk
 pub mod Judged
 pub mod Refusing

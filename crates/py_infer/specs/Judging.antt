@@ -1,9 +1,27 @@
--- What is said of a file's bytes on the way to the answer.
-use Rattle.std.specs.Prelude.{◌≡◌, ℕ, List, Option, None, Some, slice_get}
-use Rattle.py_tokens.specs.declared.token.Token.{Token}
+-- What is said of a file's bytes, of its tokens and of its tree on the way to the answer.
+use Rattle.std.specs.Prelude.{◌≡◌, ℕ, List, [], None}
+use Rattle.py_tokens.specs.TokenList.{TokenList}
+use Rattle.py_tree.specs.Tree.{Module}
+use Rattle.py_parse.specs.Parses.{IsReading}
+use Rattle.scope_rules.specs.Faults.{first, faults}
+use Rattle.built_forms.specs.Unbuilt.{unbuilt}
 use Rattle.py_infer.specs.Lines.{Line}
-use Rattle.py_infer.specs.Modules.{IsModule}
+use Rattle.py_infer.specs.Modules.{IsModule, lines_of}
 use Rattle.py_infer.specs.Stubs.{Rows, AreRowsOf, stub_text}
+
+-- the tree keeps the static rules and has only forms that are built, and this is its stub
+pub record IsStubOfTree (m : Module) (stub : List ℕ) : Type 0 where
+  pub rows : Rows
+  pub lawful : first (faults m) ≡ None
+  pub built : unbuilt m ≡ []
+  pub rows_are : AreRowsOf (lines_of m) rows
+  pub text : stub ≡ stub_text rows
+
+-- the tokens have such a tree
+pub record IsStubOfTokens (t : TokenList) (stub : List ℕ) : Type 0 where
+  pub tree : Module
+  pub reading : IsReading t tree
+  pub stub_is : IsStubOfTree tree stub
 
 -- the bytes are a plain module, and this is its stub
 pub record IsStubOf (bytes stub : List ℕ) : Type 0 where
@@ -12,12 +30,3 @@ pub record IsStubOf (bytes stub : List ℕ) : Type 0 where
   pub module_is : IsModule bytes lines
   pub rows_are : AreRowsOf lines rows
   pub text : stub ≡ stub_text rows
-
--- the line of a token, where there is one
-abbrev pub line_of : Option Token → ℕ
-line_of None = 0
-line_of (Some token) = token.span.line
-
--- the line of the token at a place
-abbrev pub line_in : List Token → ℕ → ℕ
-line_in tokens place = line_of (slice_get tokens place)

@@ -1,9 +1,8 @@
 pub mod Codes
 pub mod Words
-pub mod Taken
 pub mod Lines
 pub mod Modules
-pub mod Refusals
+pub mod FaultNames
 pub mod Reports
 pub mod Stubs
 pub mod Typing

@@ -1,10 +1,8 @@
 -- Lines `NAME = VALUE`, and what carrying them out in their order does.
-use Rattle.std.specs.Prelude.{◌≡◌, ℕ, Bool, true, false, if◌then◌else◌, ◌⊎◌, List, [], ◌∷◌, Option, None, Some}
+use Rattle.std.specs.Prelude.{◌≡◌, ℕ, Bool, if◌then◌else◌, ◌⊎◌, List, [], ◌∷◌, Option, None, Some}
 use Rattle.std.specs.Str.{bytes_eq}
-use Rattle.place_ids.specs.Names.{has_name}
 use Rattle.py_infer.specs.declared.plain_type.PlainType.{PlainType}
 use Rattle.py_infer.specs.declared.plain_type.PlainType.TheVariants as type
-use Rattle.py_infer.specs.Taken.{is_taken}
 
 -- Values: None, truth values, whole numbers, fractions, and texts and bytes, of which only matters whether they are empty.
 pub data Value : Type 0 where
@@ -24,16 +22,6 @@ pub data Expression : Type 0 where
 pub record Line : Type 0 where
   pub target : List ℕ
   pub value : Expression
-
--- What an expression may read after lines that assign these names: a name that one of them assigns.
-abbrev pub IsReadable : List (List ℕ) → Expression → Type 0
-IsReadable assigned (literal value) = Unit {0}
-IsReadable assigned (name n) = has_name assigned n ≡ true
-
--- Lines that may follow those that assign these names: none assigns a taken name, and each reads only what an earlier one assigns.
-abbrev pub ArePlain : List (List ℕ) → List Line → Type 0
-ArePlain assigned [] = Unit {0}
-ArePlain assigned (line ∷ lines) = (is_taken line.target ≡ false) × IsReadable assigned line.value × ArePlain (line.target ∷ assigned) lines
 
 -- What stands for each name, where there is something.
 abbrev pub Held : Type 0 → Type 0

@@ -1,128 +1,67 @@
-//! One line of a plain module, from its tokens.
-ghost use Rattle.std.specs.Prelude.{◌≡◌, ℕ, List, ◌+◌, ◌<◌, ◌^◌, ◌↔◌, slice_get, Some, None, IsTrue, MatchOption, MatchResult};
-ghost use Rattle.std.specs.Option.{option_and_then};
-ghost use Rattle.py_infer.specs.Modules.{kinds};
-ghost use Rattle.py_infer.specs.Typing.{IsLineAt, Stands, StopsAt, literal_type, target_in, token_type, type_at};
+//! One line of a plain module, from its statement.
+ghost use Rattle.std.specs.Prelude.{◌≡◌, MatchOption, Some, None};
+ghost use Rattle.py_tree.specs.View.{expr_view, stmt_kind_view};
+ghost use Rattle.py_infer.specs.Lines.{type_of};
+ghost use Rattle.py_infer.specs.Modules as spec;
+ghost use Rattle.py_infer.specs.Modules.{value_of};
+ghost use Rattle.py_infer.specs.Typing.{row_of, type_of_expr};
 
 use crate::plain_type::PlainType;
-use crate::taken::is_taken;
 use crate::types::Types;
+use built_forms::assigned_name;
 use place_ids::{NameId, Names};
-use py_tokens::{Keyword, Op, TokenKind, Tokens};
+use py_tree::{Expr, ExprKind, Literal, StmtKind};
 
 /// A line `NAME = VALUE`: the name, and the type of the value.
 #[derive(Clone, Copy, Debug)]
-pub struct Line<'t> {
-    pub target: &'t str,
+pub struct Line<'m> {
+    pub target: &'m str,
     pub plain_type: PlainType,
 }
 
-/// How many tokens a line has.
-pub const LINE_TOKENS: usize = 4;
-
-fn kind_at(tokens: &Tokens, place: usize) -> Option<TokenKind>
-    ensures { result ≡ slice_get (kinds tokens.now.tokens) place }
+fn text_of(names: &Names, name: NameId) -> &str
+    ensures { result.now ≡ spec.text_of names.now name }
 {
-    tokens.get(place).map(|token| token.kind)
-}
-
-fn is_assign_at(tokens: &Tokens, place: usize) -> bool
-    ensures { IsTrue result ↔ Stands (TokenKind.Op Op.Assign) (kinds tokens.now.tokens) place }
-{
-    match kind_at(tokens, place) {
-        Some(TokenKind::Op(Op::Assign)) => true,
-        _ => false,
+    match names.text(name) {
+        Some(text) => text,
+        None => "",
     }
 }
 
-fn is_newline_at(tokens: &Tokens, place: usize) -> bool
-    ensures { IsTrue result ↔ Stands TokenKind.Newline (kinds tokens.now.tokens) place }
+fn literal_type(literal: Literal) -> PlainType
+    ensures { result ≡ type_of (value_of literal) }
 {
-    match kind_at(tokens, place) {
-        Some(TokenKind::Newline) => true,
-        _ => false,
+    match literal {
+        Literal::NoneValue => PlainType::NoneType,
+        Literal::TrueValue | Literal::FalseValue => PlainType::Bool,
+        Literal::Int(_, _) => PlainType::Int,
+        Literal::Float => PlainType::Float,
+        Literal::Str(_) => PlainType::Str,
+        Literal::Bytes(_) => PlainType::Bytes,
     }
 }
 
-/// Whether the end of the text stands at a place.
-pub fn is_end_at(tokens: &Tokens, place: usize) -> bool
-    ensures { IsTrue result ↔ Stands TokenKind.End (kinds tokens.now.tokens) place }
+// The type of a value, where names have these types.
+fn type_of_value(types: &Types, names: &Names, value: &Expr) -> Option<PlainType>
+    ensures { result ≡ type_of_expr names.now types.now (expr_view value.now) }
 {
-    match kind_at(tokens, place) {
-        Some(TokenKind::End) => true,
-        _ => false,
-    }
-}
-
-fn name_at(tokens: &Tokens, place: usize) -> Option<NameId>
-    ensures { MatchOption result ((id : ℕ) → slice_get (kinds tokens.now.tokens) place ≡ Some (TokenKind.Name id) → ⊥) (λ id. slice_get (kinds tokens.now.tokens) place ≡ Some (TokenKind.Name id)) }
-{
-    match kind_at(tokens, place)? {
-        TokenKind::Name(id) => Some(id),
+    match &value.kind {
+        ExprKind::Literal(literal) => Some(literal_type(*literal)),
+        ExprKind::Name(name) => types.get(text_of(names, *name)),
         _ => None,
     }
 }
 
-// The name at a place that a line may assign.
-fn target_at(tokens: &Tokens, place: usize) -> Option<&str>
-    ensures { MatchOption result (target_in tokens.now.names (kinds tokens.now.tokens) place ≡ None) (λ name. target_in tokens.now.names (kinds tokens.now.tokens) place ≡ Some name.now) }
+/// The line that a statement is, after lines that give names these types.
+pub fn line_of<'m>(types: &Types, names: &'m Names, kind: &StmtKind) -> Option<Line<'m>>
+    ensures { MatchOption result (row_of names.now types.now (stmt_kind_view kind.now) ≡ None)
+        (λ line. row_of names.now types.now (stmt_kind_view kind.now) ≡ Some (line.target.now, line.plain_type)) }
 {
-    let id = name_at(tokens, place)?;
-    let name = tokens.names().text(id)?;
-    if is_taken(name) { None } else { Some(name) }
-}
-
-fn literal_type(value: TokenKind) -> Option<PlainType>
-    ensures { result ≡ literal_type value }
-{
-    match value {
-        TokenKind::Keyword(Keyword::KwNone) => Some(PlainType::NoneType),
-        TokenKind::Keyword(Keyword::KwTrue | Keyword::KwFalse) => Some(PlainType::Bool),
-        TokenKind::Int(_) => Some(PlainType::Int),
-        TokenKind::Float => Some(PlainType::Float),
-        TokenKind::Str(_) => Some(PlainType::Str),
-        TokenKind::Bytes(_) => Some(PlainType::Bytes),
-        _ => None,
-    }
-}
-
-// The type of a value, by its token.
-fn token_type(types: &Types, names: &Names, value: TokenKind) -> Option<PlainType>
-    ensures { result ≡ token_type names.now types.now value }
-{
-    if let TokenKind::Name(id) = value {
-        let name = names.text(id)?;
-        return types.get(name);
-    }
-    literal_type(value)
-}
-
-fn type_at(types: &Types, tokens: &Tokens, place: usize) -> Option<PlainType>
-    ensures { result ≡ type_at tokens.now.names types.now (kinds tokens.now.tokens) place }
-{
-    let value = kind_at(tokens, place)?;
-    token_type(types, tokens.names(), value)
-}
-
-/// The line that begins at a place, after lines that give names these types; or the place of the first token that no such
-/// line has there.
-pub fn line_at<'t>(types: &Types, tokens: &'t Tokens, place: usize) -> Result<Line<'t>, usize>
-    requires { place + 4 < 2 ^ 64 }
-    ensures { MatchResult result
-        (λ line. IsLineAt tokens.now.names types.now (kinds tokens.now.tokens) place line.target.now line.plain_type)
-        (StopsAt tokens.now.names types.now (kinds tokens.now.tokens) place) }
-{
-    let Some(target) = target_at(tokens, place) else {
-        return Err(place);
+    let StmtKind::Assign(_, value) = kind else {
+        return None;
     };
-    if !is_assign_at(tokens, place + 1) {
-        return Err(place + 1);
-    }
-    let Some(plain_type) = type_at(types, tokens, place + 2) else {
-        return Err(place + 2);
-    };
-    if !is_newline_at(tokens, place + 3) {
-        return Err(place + 3);
-    }
-    Ok(Line { target, plain_type })
+    let name = assigned_name(kind)?;
+    let plain_type = type_of_value(types, names, value)?;
+    let target = text_of(names, name);
+    Some(Line { target, plain_type })
 }

@@ -2,13 +2,13 @@
 #![tactic(auto)]
 
 mod answer;
+mod fault_names;
 mod judge;
 mod line;
 mod plain_type;
 mod report;
 pub mod run;
 pub mod status;
-mod taken;
 #[cfg(test)]
 mod tests;
 mod types;

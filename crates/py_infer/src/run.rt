@@ -14,6 +14,7 @@ use crate::report::whole_report;
 use crate::status::Status;
 use crate::words::accepted_file;
 use outside_io::{Fetched, Shelf, ShelfFault, Sink, put_all};
+use py_descent::laws::descent_is_complete;
 use py_tokens::laws::one_answer;
 use std::alloc::{AllocError, Global};
 
@@ -120,6 +121,7 @@ pub fn run<S: Shelf, O: Sink, E: Sink>(
     ensures held { S.held shelf.new ≡ S.held shelf.old }
 {
     one_answer();
+    descent_is_complete();
     match asked(alloc, words, shelf) {
         Ok(answer) => deliver(&answer, out, note),
         Err(AllocError) => Status::Memory,

@@ -94,6 +94,9 @@ fn writes_the_stub_of_a_plain_module(rt: HostRuntime) -> Result<(), Fail> {
             "x: int\ny: int\n",
         ),
         ("x = \\\n1\n", "x: int\n"),
+        ("x = 1; y = x;\n", "x: int\ny: int\n"),
+        ("(x) = (((1)))\n", "x: int\n"),
+        ("x = \"a\" \"b\"\n", "x: str\n"),
     ];
     for (text, stub) in cases {
         compare(&rt, infer(text), Status::Clean, stub, "")?;
@@ -139,31 +142,115 @@ fn refuses_what_is_not_utf8(rt: HostRuntime) -> Result<(), Fail> {
     compare(&rt, call, Status::Refused, "", report)
 }
 
-#[test]
-fn refuses_what_is_no_plain_module(rt: HostRuntime) -> Result<(), Fail> {
-    let first = "m.py:1: refused: out-of-profile later\n";
-    let second = "m.py:2: refused: out-of-profile later\n";
-    let cases = [
-        ("x = y\n", first),
-        ("x = x\n", first),
-        ("print = 1\n", first),
-        ("List = 1\n", first),
-        ("x\n", first),
-        ("x = 1 2\n", first),
-        ("x = 1 = 2\n", first),
-        ("1 = x\n", first),
-        ("True = 1\n", first),
-        ("x = 1j\n", first),
-        ("if x:\n  y = 1", first),
-        ("x = \\\n1 2\n", second),
-        ("x = 1\ny = z\n", second),
-        ("x = 1\nif x:\n    y = 2\n", second),
-        ("x = \"a\"\n\"b\"\n", second),
-    ];
+// Each text is refused with the report beside it.
+fn refuse_each(rt: &(impl Abort + Alloc<A = Global>), cases: &[(&str, &str)]) -> Result<(), Fail> {
     for (text, report) in cases {
-        compare(&rt, infer(text), Status::Refused, "", report)?;
+        compare(rt, infer(text), Status::Refused, "", report)?;
     }
     Ok(())
+}
+
+#[test]
+fn refuses_a_text_without_a_tree(rt: HostRuntime) -> Result<(), Fail> {
+    let cases = [
+        ("x = )\n", "m.py:1: refused: unexpected-token\n"),
+        ("x = 1 2\n", "m.py:1: refused: unexpected-token\n"),
+        ("1 = x\n", "m.py:1: refused: unexpected-token\n"),
+        ("True = 1\n", "m.py:1: refused: unexpected-token\n"),
+        ("x = 1 = 2\n", "m.py:1: refused: unexpected-token\n"),
+        ("x = \\\n1 2\n", "m.py:2: refused: unexpected-token\n"),
+    ];
+    refuse_each(&rt, &cases)
+}
+
+#[test]
+fn names_a_form_outside_the_profile(rt: HostRuntime) -> Result<(), Fail> {
+    let cases = [
+        (
+            "f = lambda x: x\n",
+            "m.py:1: refused: out-of-profile lambda\n",
+        ),
+        ("x = 1j\n", "m.py:1: refused: out-of-profile complex\n"),
+        (
+            "x = 1\n\nx = 1 < 2 < 3\n",
+            "m.py:3: refused: out-of-profile chained-compare\n",
+        ),
+        (
+            "class A:\n    def __len__(self): ...\n",
+            "m.py:2: refused: out-of-profile special-method\n",
+        ),
+    ];
+    refuse_each(&rt, &cases)
+}
+
+#[test]
+fn refuses_a_text_that_is_nested_too_deep(rt: HostRuntime) -> Result<(), Fail> {
+    let mut text = String::from_str(rt.alloc(), "x = ")?;
+    text.push_str("[".repeat(rt.alloc(), 65)?.as_str())?;
+    text.push_str("]".repeat(rt.alloc(), 65)?.as_str())?;
+    let report = "m.py:1: refused: too-deep\n";
+    compare(&rt, infer(text.as_str()), Status::Refused, "", report)
+}
+
+#[test]
+fn names_the_first_broken_rule(rt: HostRuntime) -> Result<(), Fail> {
+    let cases = [
+        ("class A(B):\n    pass\n", "m.py:1: refused: base-unknown\n"),
+        (
+            "def f(a, a):\n    pass\n",
+            "m.py:1: refused: duplicate-param\n",
+        ),
+        (
+            "def f():\n    return super().g()\n",
+            "m.py:2: refused: super-use\n",
+        ),
+        ("print = 1\n", "m.py:1: refused: builtin-bound\n"),
+        ("List = 1\n", "m.py:1: refused: builtin-bound\n"),
+        ("break\n", "m.py:1: refused: break-outside-loop\n"),
+        ("x = 1\nreturn\n", "m.py:2: refused: return-outside\n"),
+    ];
+    refuse_each(&rt, &cases)
+}
+
+#[test]
+fn refuses_forms_that_are_not_built(rt: HostRuntime) -> Result<(), Fail> {
+    let first = "m.py:1: refused: out-of-profile later\n";
+    let cases = [
+        ("if True:\n    x = 1\n", first),
+        ("x\n", first),
+        ("pass\n", first),
+        ("x = y = 1\n", first),
+        ("x: int = 1\n", first),
+        ("x += 1\n", first),
+        ("import a\n", first),
+    ];
+    refuse_each(&rt, &cases)
+}
+
+#[test]
+fn refuses_a_read_of_what_is_not_assigned(rt: HostRuntime) -> Result<(), Fail> {
+    let cases = [
+        ("x = y\n", "m.py:1: refused: out-of-profile later\n"),
+        ("x = x\n", "m.py:1: refused: out-of-profile later\n"),
+        (
+            "x = 1\ny = z\nz = 1\n",
+            "m.py:2: refused: out-of-profile later\n",
+        ),
+        ("x = (\n  y)\n", "m.py:2: refused: out-of-profile later\n"),
+    ];
+    refuse_each(&rt, &cases)
+}
+
+#[test]
+fn tells_the_least_line_of_what_is_not_built(rt: HostRuntime) -> Result<(), Fail> {
+    let second = "m.py:2: refused: out-of-profile later\n";
+    let cases = [
+        ("x = 1\nif x:\n    y = 2\n", second),
+        ("x = \"a\"\n\"b\"\n", second),
+        ("x = (\n  1,\n  2)\n", second),
+        ("x = 1\ny = -x\nz = -x\n", second),
+    ];
+    refuse_each(&rt, &cases)
 }
 
 #[test]

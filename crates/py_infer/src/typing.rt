@@ -1,33 +1,35 @@
-//! The types of the names of a plain module, line by line.
-ghost use Rattle.std.specs.Prelude.{◌≡◌, ◌≤◌, length, IfOk, MatchResult};
-ghost use Rattle.py_infer.specs.Modules.{kinds};
-ghost use Rattle.py_infer.specs.Refusals.{IsRefusedAt};
-ghost use Rattle.py_infer.specs.Typing.{AreTypesOf, IsEnded};
+//! The types of the names of a plain module, statement by statement.
+ghost use Rattle.std.specs.Prelude.{◌≡◌, [], IfOk, OnOk};
+ghost use Rattle.py_tree.specs.View.{module_view, stmt_view};
+ghost use Rattle.built_forms.specs.Unbuilt.{kind_of, unbuilt};
+ghost use Rattle.py_infer.specs.Modules.{lines_of};
+ghost use Rattle.py_infer.specs.Stubs.{AreRowsOf};
+ghost use Rattle.py_infer.specs.Typing.{IsWith, row_of};
 
-use crate::line::{LINE_TOKENS, is_end_at, line_at};
+use crate::line::line_of;
 use crate::types::Types;
-use py_tokens::Tokens;
+use place_ids::Names;
+use py_tree::{Module, Stmt};
 use std::alloc::{AllocError, Global};
 
-/// The types of the names after the last line of a plain module, or the place of the first token that no plain module has there.
-pub fn types_of(alloc: Global, tokens: &Tokens) -> Result<Result<Types, usize>, AllocError>
-    requires few { length tokens.now.tokens ≤ 1048581 }
-    requires ended { IsEnded (kinds tokens.now.tokens) }
-    ensures { IfOk result (λ found. MatchResult found (AreTypesOf tokens.now) (IsRefusedAt tokens.now)) }
+// Gives a name the type that a statement gives it.
+fn carry_out(types: &mut Types, names: &Names, stmt: &Stmt) -> Result<(), AllocError>
+    ensures { OnOk result (IsWith types.old types.new (row_of names.now types.old (kind_of (stmt_view stmt.now)))) }
+{
+    match line_of(types, names, &stmt.kind) {
+        Some(line) => types.set(line.target, line.plain_type),
+        None => Ok(()),
+    }
+}
+
+/// The types of the names after the last statement of a module that has only forms that are built.
+pub fn types_of(alloc: Global, module: &Module) -> Result<Types, AllocError>
+    requires { unbuilt (module_view «module».now) ≡ [] }
+    ensures { IfOk result (λ types. AreRowsOf (lines_of (module_view «module».now)) types) }
 {
     let mut types = Types::new(alloc);
-    let mut place = 0;
-    while !is_end_at(tokens, place) {
-        let line = match line_at(&types, tokens, place) {
-            Ok(line) => line,
-            Err(refused) => return Ok(Err(refused)),
-        };
-        types.set(line.target, line.plain_type)?;
-        place += LINE_TOKENS;
+    for stmt in &module.body {
+        carry_out(&mut types, &module.names, stmt)?;
     }
-    if place + 1 == tokens.len() {
-        Ok(Ok(types))
-    } else {
-        Ok(Err(place + 1))
-    }
+    Ok(types)
 }

@@ -1,10 +1,8 @@
--- The lines so far, and those of the rest, make the module.
-use Rattle.std.proofs.Common.{◌-◌, length}
+-- The statements so far, and those that are left, make the module.
+use Rattle.std.proofs.Common.{drop}
+use Rattle.py_tree.specs.View.{module_view, stmts_view}
 use Rattle.py_infer.proofs.Walk.{Walks}
 use Rattle.py_infer.proofs.typing.types_of.Given as goal
 
-abbrev pub invariant-loop-types : goal.invariant-loop-types
-invariant-loop-types l = Walks l.tokens l.place l.types
-
-abbrev pub decreases-loop-types : goal.decreases-loop-types
-decreases-loop-types l = length l.tokens.tokens - l.place
+abbrev pub invariant-loop-stmt : goal.invariant-loop-stmt
+invariant-loop-stmt l = Walks (module_view l.module) (stmts_view (drop l.stmt-index l.module.body.items)) l.types
