@@ -1,0 +1,11 @@
+pub mod Orders
+pub mod Imports
+pub mod Layout
+pub mod Behind
+pub mod Lexemes
+pub mod TypeGrammar
+pub mod StubGrammar
+pub mod Meanings
+pub mod NormalStubs
+pub mod Laws
+pub mod SmallStub
