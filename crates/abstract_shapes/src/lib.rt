@@ -1,0 +1,23 @@
+//! Abstract values by structure, the joined tables of shapes, and what types are printed for sets of shapes.
+#![tactic(auto)]
+
+mod copied;
+mod joined;
+pub mod laws;
+mod place;
+mod plain;
+mod printed;
+mod same;
+mod same_term;
+mod shape;
+mod shapes;
+mod sources;
+mod table;
+#[cfg(test)]
+mod tests;
+
+pub use joined::Joined;
+pub use place::Place;
+pub use printed::type_of;
+pub use shape::{Row, Shape};
+pub use shapes::Shapes;
