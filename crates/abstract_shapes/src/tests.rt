@@ -28,8 +28,8 @@ fn method(name: &str) -> Row {
     }
 }
 
-fn exception(alloc: Global, name: &str) -> Result<Shape, AllocError> {
-    Ok(Shape::Given(TypeTerm::Class(text(alloc, name)?)))
+fn class_named(alloc: Global, name: &str) -> Result<TypeTerm, AllocError> {
+    Ok(TypeTerm::Class(text(alloc, name)?))
 }
 
 #[test]
@@ -162,10 +162,10 @@ fn add_natives(alloc: Global, shapes: &mut Shapes) -> Result<(), Fail> {
 
 // Values from outside 34 to 39, a list 40, a method of it 41.
 fn add_given(alloc: Global, shapes: &mut Shapes) -> Result<(), Fail> {
-    shapes.intern(exception(alloc, "KeyError")?)?;
-    shapes.intern(exception(alloc, "LookupError")?)?;
-    shapes.intern(exception(alloc, "IndexError")?)?;
-    shapes.intern(exception(alloc, "m.C")?)?;
+    shapes.intern(Shape::Given(class_named(alloc, "KeyError")?))?;
+    shapes.intern(Shape::Given(class_named(alloc, "LookupError")?))?;
+    shapes.intern(Shape::Given(class_named(alloc, "IndexError")?))?;
+    shapes.intern(Shape::Given(class_named(alloc, "m.C")?))?;
     let members = vec![in alloc; TypeTerm::Int, TypeTerm::NoneTerm]?;
     shapes.intern(Shape::Given(TypeTerm::Union(members)))?;
     shapes.intern(Shape::Given(TypeTerm::List(Box::new(alloc, TypeTerm::Int)?)))?;
