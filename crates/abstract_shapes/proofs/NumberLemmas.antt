@@ -169,11 +169,11 @@ same_complete xs once r s h k e = absurd (cc)
 
 -- ---- the search
 
-next_of : (o : Option ℕ) (i : ℕ) → option_map suc o ≡ Some i → (j : ℕ) × (o ≡ Some j) × (suc j ≡ i)
+pub next_of : (o : Option ℕ) (i : ℕ) → option_map suc o ≡ Some i → (j : ℕ) × (o ≡ Some j) × (suc j ≡ i)
 next_of None i h = absurd (cc)
 next_of (Some j) i h = (j, refl, cc)
 
-none_of : (o : Option ℕ) → option_map suc o ≡ None → o ≡ None
+pub none_of : (o : Option ℕ) → option_map suc o ≡ None → o ≡ None
 none_of None h = refl
 none_of (Some j) h = absurd (cc)
 

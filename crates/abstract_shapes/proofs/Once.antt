@@ -4,15 +4,12 @@ use Rattle.type_terms.specs.Laws.{SameMembersSameForm}
 use Rattle.type_terms.specs.Normal.{IsAmong}
 use Rattle.type_terms.specs.Terms as type
 use Rattle.type_terms.specs.Terms.{Term, terms_of, list_of}
+use Rattle.type_terms.proofs.PartLemmas.{list_of-terms_of}
 use Rattle.abstract_shapes.specs.declared.place.Place.{Place}
 use Rattle.abstract_shapes.specs.declared.place.Place.TheVariants.{Element, Key, Value, Part}
 use Rattle.abstract_shapes.specs.Shapes.{Shape, class, inst}
 use Rattle.abstract_shapes.specs.Printed.{Scene, ArePlaces, no_place, a_place, IsShapeType, plain_type, of_plain, of_list, of_dict, of_display, of_tuple, of_pair, IsUnionType, IsPrinted}
 use Rattle.abstract_shapes.specs.Laws.{SameSet, SameScene, OnePrintedType}
-
-listed : (ts : List Term) → list_of (terms_of ts) ≡ ts
-listed [] = refl
-listed (t ∷ ts) = ap (λ us. t ∷ us) (listed ts)
 
 module _ (scene other : Scene) (same : SameScene scene other) (R Q : List Shape → Term → Type 0)
     (one : (shapes more : List Shape) (t u : Term) → SameSet shapes more → R shapes t → Q more u → t ≡ u) where
@@ -71,8 +68,8 @@ module _ (scene other : Scene) (same : SameScene scene other) (R Q : List Shape 
   one_union form shapes more t u set h k =
       form (terms_of h.terms) (terms_of k.terms) t u
       (λ v. (
-        λ among. subst (IsAmong v) (sym (listed k.terms)) (goes_over shapes more t u set h k v (subst (IsAmong v) (listed h.terms) among)),
-        λ among. subst (IsAmong v) (sym (listed h.terms)) (comes_back shapes more t u set h k v (subst (IsAmong v) (listed k.terms) among)),
+        λ among. subst (IsAmong v) (sym (list_of-terms_of k.terms)) (goes_over shapes more t u set h k v (subst (IsAmong v) (list_of-terms_of h.terms) among)),
+        λ among. subst (IsAmong v) (sym (list_of-terms_of h.terms)) (comes_back shapes more t u set h k v (subst (IsAmong v) (list_of-terms_of k.terms) among)),
       ))
       h.normal k.normal
 

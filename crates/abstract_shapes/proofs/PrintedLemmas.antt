@@ -9,11 +9,12 @@ use Rattle.type_terms.specs.Terms.{Term, terms_of}
 use Rattle.type_terms.specs.View.{term_view}
 use Rattle.type_terms.specs.declared.term.TypeTerm.{TypeTerm}
 use Rattle.type_terms.specs.declared.term.TypeTerm.TheVariants as variants
+use Rattle.type_terms.proofs.ViewLemmas.{view_any, view_union}
 use Rattle.abstract_shapes.specs.declared.place.Place.TheVariants.{Element, Key, Value, Part}
 use Rattle.abstract_shapes.specs.Numbering.{shape_at}
 use Rattle.abstract_shapes.specs.Printed.{Scene, ArePlaces, no_place, a_place, IsShapeType, of_plain, of_list, of_dict, of_display, of_tuple, of_pair, IsUnionType, IsPrinted}
 use Rattle.abstract_shapes.specs.Shapes.{Shape, list, dict, tuple, pair, any}
-use Rattle.abstract_shapes.proofs.ViewLemmas.{view_any, view_list, view_dict, view_tuple_of, view_union}
+use Rattle.abstract_shapes.proofs.ViewLemmas.{view_list, view_dict, view_tuple_of}
 
 module _ (R : Shape → Term → Type 0) where
   each_of : (shapes : List Shape) (terms : List Term) → AllZip R shapes terms → (u : Term) → IsAmong u terms → (s : Shape) × Contains shapes s × R s u

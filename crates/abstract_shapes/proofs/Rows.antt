@@ -1,25 +1,16 @@
 -- What a row that changes does to the tables.
 use Rattle.std.proofs.Common.{◌≡◌, ℕ, zero, suc, ◌<◌, length, ◌&&◌, ◌==◌, Bool, true, false, cond, not, List, [], ◌∷◌, ◌++◌, Option, Some, None, option_map, set, get_or, inl, inr, refl, sym, ap, ◌∙◌, arith}
 use Rattle.std.proofs.lemmas.Bool.{cases_Bool}
-use Rattle.std.proofs.lemmas.Bool.Decides.{nat_tests}
 use Rattle.flow_graph.specs.Flows.{changed_at}
 use Rattle.abstract_shapes.specs.declared.place.Place.{Place}
 use Rattle.abstract_shapes.specs.declared.place.Place.TheVariants.{Attribute, Member, Element, Key, Value, Part, Global, Raised}
 use Rattle.abstract_shapes.specs.declared.table.TableRow.{TableRow}
 use Rattle.abstract_shapes.specs.Tables.{kind, first, second, same_place, table_at, has_shape, with_shape, row_number, grown}
-
-same_number : (n m : ℕ) → (n == m) ≡ true → n ≡ m
-same_number n m h = grind (arith, nat_tests)
-
-number_same : (n : ℕ) → (n == n) ≡ true
-number_same n = grind (arith, nat_tests)
-
-both : (a b : Bool) → a && b ≡ true → (a ≡ true) × (b ≡ true)
-both true b h = (refl, h)
-both false b h = absurd (cc)
+use Rattle.abstract_shapes.proofs.NumberLemmas.{next_of, none_of}
+use Rattle.abstract_shapes.proofs.SameLemmas.{number_is, number_itself, both_of}
 
 pub place_itself : (p : Place) → same_place p p ≡ true
-place_itself p = ap (λ t. t && ((first p == first p) && (second p == second p))) (number_same (kind p)) ∙ ap (λ t. t && (second p == second p)) (number_same (first p)) ∙ number_same (second p)
+place_itself p = ap (λ t. t && ((first p == first p) && (second p == second p))) (number_itself (kind p)) ∙ ap (λ t. t && (second p == second p)) (number_itself (first p)) ∙ number_itself (second p)
 
 -- places that are the same in kind and numbers are the same
 by_parts : (p q : Place) → kind p ≡ kind q → first p ≡ first q → second p ≡ second q → p ≡ q
@@ -35,9 +26,9 @@ by_parts _ _ k f s = absurd (cc)
 
 pub place_is : (p q : Place) → same_place p q ≡ true → p ≡ q
 place_is p q h =
-    let first_parts = both (kind p == kind q) ((first p == first q) && (second p == second q)) h in
-    let rest = both (first p == first q) (second p == second q) first_parts.1 in
-    by_parts p q (same_number (kind p) (kind q) first_parts.0) (same_number (first p) (first q) rest.0) (same_number (second p) (second q) rest.1)
+    let first_parts = both_of (kind p == kind q) ((first p == first q) && (second p == second q)) h in
+    let rest = both_of (first p == first q) (second p == second q) first_parts.1 in
+    by_parts p q (number_is (kind p) (kind q) first_parts.0) (number_is (first p) (first q) rest.0) (number_is (second p) (second q) rest.1)
 
 pub place_apart : (p q : Place) → (p ≡ q → ⊥) → same_place p q ≡ false
 place_apart p q apart = elim (cases_Bool (same_place p q)) [
@@ -46,14 +37,6 @@ place_apart p q apart = elim (cases_Bool (same_place p q)) [
 ]
 
 -- ---- a row that grows
-
-next_of : (o : Option ℕ) (i : ℕ) → option_map suc o ≡ Some i → (j : ℕ) × (o ≡ Some j) × (suc j ≡ i)
-next_of None i h = absurd (cc)
-next_of (Some j) i h = (j, refl, cc)
-
-none_of : (o : Option ℕ) → option_map suc o ≡ None → o ≡ None
-none_of None h = refl
-none_of (Some j) h = absurd (cc)
 
 first_of : (i : ℕ) → Some 0 ≡ Some i → 0 ≡ i
 first_of i h = cc

@@ -7,9 +7,6 @@ use Rattle.type_terms.specs.declared.term.TypeTerm.TheVariants as variants
 use Rattle.type_terms.specs.Terms.{Term, any, list, dict, tuple, tuple_of, union}
 use Rattle.type_terms.specs.View.{term_step, term_view, terms_view}
 
-pub view_any : term_view variants.Any ≡ any
-view_any = ap term_view (sym variants.rolls-Any) ∙ fold-roll-TypeTerm Term term_step TypeTerm-F.Any
-
 pub view_list : (item : Box TypeTerm) → term_view (variants.List item) ≡ list (term_view item.value)
 view_list item = ap term_view (sym (variants.rolls-List item)) ∙ fold-roll-TypeTerm Term term_step (TypeTerm-F.List item)
 
@@ -21,6 +18,3 @@ view_tuple places = ap term_view (sym (variants.rolls-Tuple places)) ∙ fold-ro
 
 pub view_tuple_of : (item : Box TypeTerm) → term_view (variants.TupleOf item) ≡ tuple_of (term_view item.value)
 view_tuple_of item = ap term_view (sym (variants.rolls-TupleOf item)) ∙ fold-roll-TypeTerm Term term_step (TypeTerm-F.TupleOf item)
-
-pub view_union : (members : Vec TypeTerm) → term_view (variants.Union members) ≡ union (terms_view members.items)
-view_union members = ap term_view (sym (variants.rolls-Union members)) ∙ fold-roll-TypeTerm Term term_step (TypeTerm-F.Union members)

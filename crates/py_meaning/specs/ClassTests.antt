@@ -56,6 +56,7 @@ in_named_chain names (of_module d) = false
 in_named_chain names (of_python name) = has_name names name
 in_named_chain names (of_stub name) = has_name names name
 
+-- the classes above an instance whose declared type is a class of this name
 abbrev pub chain_named : Program → List ℕ → List (List ℕ)
 chain_named p name = elim (stub_class_at p name) [ None ↦ exception_chain name | Some k ↦ chain_of_stub_class k ]
 

@@ -7,6 +7,7 @@ use Rattle.py_meaning.specs.Objects.{Object}
 use Rattle.py_meaning.specs.Events.{Event, held}
 use Rattle.py_meaning.specs.Programs.{Program, FunRow, program, printed, fun_at}
 use Rattle.py_meaning.specs.Statements.{exec_all}
+use Rattle.py_meaning.specs.Truth.{has_parts}
 use Rattle.py_meaning.specs.Calls.{receivers, perform}
 use Rattle.py_meaning.specs.Actions.{Memory, Flow, OutsideCall, calls_function, calls_class, Request, outside_call, Outcome, came, threw, Action, gives, raises, takes, counts, turn, looks, becomes, tells, then_do, done}
 
@@ -91,12 +92,8 @@ abbrev pub module_action : Program → Action (Unit {0})
 module_action p = then_do (exec_all p p.body) (tell_names (printed p))
 
 -- whether a call from outside can be made: a method needs an instance
-abbrev pub has_any : {A : Type 0} → List A → Bool
-has_any [] = false
-has_any (x ∷ xs) = true
-
 abbrev pub row_can_be_called : Program → List Object → FunRow → Bool
-row_can_be_called p heap row = elim row.class [ None ↦ true | Some owner ↦ has_any (receivers p row owner 0 heap) ]
+row_can_be_called p heap row = elim row.class [ None ↦ true | Some owner ↦ has_parts (receivers p row owner 0 heap) ]
 
 abbrev pub can_be_called : Program → List Object → OutsideCall → Bool
 can_be_called p heap (calls_function f names) = elim (fun_at p f) [ None ↦ false | Some row ↦ row_can_be_called p heap row ]

@@ -99,10 +99,6 @@ exceptions_above (c ∷ cs) = exceptions_above cs
 abbrev pub chain_of_stub_class : StubClass → List (List ℕ)
 chain_of_stub_class k = map (λ c. dotted k.home c.name) (bases k) ++ exceptions_above (bases k)
 
--- the classes above an instance whose declared type is a class of this name
-abbrev pub chain_of_class_named : Program → List ℕ → List (List ℕ)
-chain_of_class_named p name = elim (stub_class_at p name) [ None ↦ exception_chain name | Some k ↦ chain_of_stub_class k ]
-
 -- a method of a class, along its bases
 abbrev pub method_among : List stubs.Class → List ℕ → Option (stubs.Class × stubs.Fun)
 method_among [] name = None

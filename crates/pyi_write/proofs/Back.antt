@@ -1,6 +1,6 @@
 -- The text of a normal stub means that stub.
 use Rattle.std.proofs.Common.{◌≡◌, ℕ, ◌≤◌, Bool, true, false, ◌&&◌, ◌||◌, cond, List, [], ◌∷◌, ◌++◌, chars, map, drop, inl, Option, Some, None, IfSome, refl, sym, ap, ◌∙◌, subst}
-use Rattle.std.specs.List.{list_any, list_all, flat_map, filter_map, AllByRecursion, IsDistinct}
+use Rattle.std.specs.List.{list_any, list_all, flat_map, filter_map, AllByRecursion, IsDistinct, AllZip}
 use Rattle.std.specs.Str.{bytes_eq}
 use Rattle.std.proofs.lemmas.Map.Keys.{IsDistinct-head, IsDistinct-tail}
 use Rattle.py_tokens.specs.Fronts.{begins_with}
@@ -15,7 +15,7 @@ use Rattle.type_terms.specs.Terms.{Term, any, none, bool, int, float, str, bytes
 use Rattle.pyi_write.specs.Imports.{within, all_within, module_named, typing_named, body_terms, class_terms, written_terms, all_terms, modules, typing_names}
 use Rattle.pyi_write.specs.Layout.{name_line, fun_line, class_text, parts, stub_text}
 use Rattle.pyi_write.specs.Meanings as meaning
-use Rattle.pyi_write.specs.Meanings.{declared, Pairwise, IsNameForm, IsParamForm, IsFunForm, IsClassForm, IsStubForm, IsStubOf, Means}
+use Rattle.pyi_write.specs.Meanings.{declared, IsNameForm, IsParamForm, IsFunForm, IsClassForm, IsStubForm, IsStubOf, Means}
 use Rattle.pyi_write.specs.NormalStubs.{IsIdentifier, IsPath, AllNames, EachAllNames, depth, Follow, Rise, fun_names, given_names, base_names, class_names, IsPlain, IsOrderly, IsNormalStub}
 use Rattle.pyi_write.specs.Orders.{is_fun, with_name, shown}
 use Rattle.pyi_write.specs.StubGrammar.{Item, a_module, a_member, a_class, Member, a_name, a_fun, modules_of, members_of, classes_of, names_in, funs_in}
@@ -266,11 +266,11 @@ module _ (s : Stub) (own : list_any (λ (c : Class). has_name taken_names c.name
 
   -- ---- normal forms
 
-  names_form : (ns : List Name) → AllByRecursion (λ (n : Name). Good n.term) ns → Pairwise IsNameForm ns ns
+  names_form : (ns : List Name) → AllByRecursion (λ (n : Name). Good n.term) ns → AllZip IsNameForm ns ns
   names_form [] h = tt
   names_form (n ∷ ns) h = (record { name = refl; term = h.0.normal }, names_form ns h.1)
 
-  params_form : (ps : List Param) → AllByRecursion (λ (p : Param). Good p.term) ps → Pairwise IsParamForm ps ps
+  params_form : (ps : List Param) → AllByRecursion (λ (p : Param). Good p.term) ps → AllZip IsParamForm ps ps
   params_form [] h = tt
   params_form (p ∷ ps) h = (record { name = refl; term = h.0.normal; has_default = refl }, params_form ps h.1)
 
@@ -281,11 +281,11 @@ module _ (s : Stub) (own : list_any (λ (c : Class). has_name taken_names c.name
     answer = (answer_good f h).normal;
   }
 
-  funs_form : (fs : List Fun) → AllByRecursion (λ (f : Fun). AllByRecursion Good (fun_terms f)) fs → Pairwise IsFunForm fs fs
+  funs_form : (fs : List Fun) → AllByRecursion (λ (f : Fun). AllByRecursion Good (fun_terms f)) fs → AllZip IsFunForm fs fs
   funs_form [] h = tt
   funs_form (f ∷ fs) h = (fun_form f h.0, funs_form fs h.1)
 
-  classes_form : (ks : List Class) → AllByRecursion GoodClass ks → Pairwise IsClassForm ks ks
+  classes_form : (ks : List Class) → AllByRecursion GoodClass ks → AllZip IsClassForm ks ks
   classes_form [] h = tt
   classes_form (k ∷ ks) h = (record { name = refl; base = refl; names = names_form k.names h.0.body.terms; funs = funs_form k.funs h.0.body.fun_terms }, classes_form ks h.1)
 

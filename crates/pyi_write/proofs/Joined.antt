@@ -1,4 +1,4 @@
--- What is still to be written of texts that are joined, and which members are one and None.
+-- What is still to be written of texts that are joined.
 use Rattle.std.proofs.Common.{◌≡◌, ℕ, ◌<◌, ◌==◌, Bool, false, List, [], ◌∷◌, ◌++◌, Bor, codes, map, length, get_or, refl, sym, ap, ◌∙◌, arith, append_assoc}
 use Rattle.std.specs.List.{flat_map}
 use Rattle.std.proofs.lemmas.Bool.{ne_eqb}
@@ -19,18 +19,3 @@ some_names (name ∷ names) h = refl
 pub flat_append : {X Y : Type 0} (f : X → List Y) (xs ys : List X) → flat_map f (xs ++ ys) ≡ flat_map f xs ++ flat_map f ys
 flat_append f [] ys = refl
 flat_append f (x ∷ xs) ys = ap (λ zs. f x ++ zs) (flat_append f xs ys) ∙ sym (append_assoc (f x) (flat_map f xs) (flat_map f ys))
-
-not_two_long : (ts : List TypeTerm) → (length ts ≡ 2 → ⊥) → is_optional (terms_view ts) ≡ false
-not_two_long [] h = refl
-not_two_long (t ∷ []) h = refl
-not_two_long (t ∷ u ∷ []) h = absurd (h refl)
-not_two_long (t ∷ u ∷ v ∷ ts) h = refl
-
-pub not_two : (ts : List TypeTerm) → (length ts ≡ 2 → ⊥) → (length ts == 2) ≡ is_optional (terms_view ts)
-not_two ts h = ne_eqb (length ts) 2 h ∙ sym (not_two_long ts h)
-
-pub two : (ts : List TypeTerm) (t : TypeTerm) (b : Bool) → length ts ≡ 2 → t ≡ get_or ts 1 t → b ≡ is_none (term_view t) → b ≡ is_optional (terms_view ts)
-two [] t b long is none = absurd (omega (arith, long))
-two (u ∷ []) t b long is none = absurd (omega (arith, long))
-two (u ∷ v ∷ []) t b long is none = none ∙ ap (λ w. is_none (term_view w)) is
-two (u ∷ v ∷ w ∷ ts) t b long is none = absurd (omega (arith, long))

@@ -1,17 +1,18 @@
 -- A text means one stub.
 use Rattle.std.proofs.Common.{◌≡◌, ℕ, List, [], ◌∷◌, refl, sym, ◌∙◌, subst}
+use Rattle.std.specs.List.{AllZip}
 use Rattle.py_tokens.specs.declared.token.Token.{Token}
 use Rattle.py_tokens.specs.Readings.{HasTokens}
 use Rattle.type_terms.specs.Laws.{OneNormalForm}
 use Rattle.type_terms.specs.Stubs.{Name, Param, Fun, Class, Stub}
 use Rattle.pyi_write.specs.Lexemes.{Lexeme, lexemes}
-use Rattle.pyi_write.specs.Meanings.{declared, Pairwise, IsNameForm, IsParamForm, IsFunForm, IsClassForm, IsStubForm, IsStubOf, Means}
+use Rattle.pyi_write.specs.Meanings.{declared, IsNameForm, IsParamForm, IsFunForm, IsClassForm, IsStubForm, IsStubOf, Means}
 use Rattle.pyi_write.specs.StubGrammar.{Item}
 use Rattle.pyi_write.proofs.OneReading.{one_list}
 
 -- rows that belong to the same rows are the same, where that holds of each two rows
 module _ {X Y : Type 0} (R : X → Y → Type 0) (one : (x : X) (y z : Y) → R x y → R x z → y ≡ z) where
-  one_rows : (xs : List X) (ys zs : List Y) → Pairwise R xs ys → Pairwise R xs zs → ys ≡ zs
+  one_rows : (xs : List X) (ys zs : List Y) → AllZip R xs ys → AllZip R xs zs → ys ≡ zs
   one_rows [] [] [] h k = refl
   one_rows [] [] (z ∷ zs) h k = absurd k
   one_rows [] (y ∷ ys) zs h k = absurd h

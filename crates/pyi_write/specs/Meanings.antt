@@ -1,6 +1,6 @@
 -- Which stub a text means.
 use Rattle.std.specs.Prelude.{◌≡◌, ℕ, Bool, true, false, List, [], ◌∷◌, ◌++◌, ◌||◌, map, Option, Some, None}
-use Rattle.std.specs.List.{list_any, list_all, IsDistinct}
+use Rattle.std.specs.List.{list_any, list_all, AllZip, IsDistinct}
 use Rattle.std.specs.Str.{bytes_eq}
 use Rattle.py_tokens.specs.declared.token.Token.{Token}
 use Rattle.py_tokens.specs.Readings.{HasTokens}
@@ -28,12 +28,6 @@ is_known s modules t =
     (λ name. has_class_named s.classes name || (is_instance_name name || is_among modules (module_of name)))
     (λ name. has_class_named s.classes name || (is_class_name name || is_among modules (module_of name))) t
 
--- the rows of two lists belong to each other, one by one
-abbrev pub Pairwise : {X Y : Type 0} → (X → Y → Type 0) → List X → List Y → Type 0
-Pairwise R [] [] = Unit {0}
-Pairwise R (x ∷ xs) (y ∷ ys) = R x y × Pairwise R xs ys
-Pairwise R _ _ = ⊥
-
 -- the second is the first with each type in its normal form
 pub record IsNameForm (n m : Name) : Type 0 where
   pub name : n.name ≡ m.name
@@ -46,19 +40,19 @@ pub record IsParamForm (p q : Param) : Type 0 where
 
 pub record IsFunForm (f g : Fun) : Type 0 where
   pub name : f.name ≡ g.name
-  pub params : Pairwise IsParamForm f.params g.params
+  pub params : AllZip IsParamForm f.params g.params
   pub answer : IsNormalOf f.answer g.answer
 
 pub record IsClassForm (c d : Class) : Type 0 where
   pub name : c.name ≡ d.name
   pub base : c.base ≡ d.base
-  pub names : Pairwise IsNameForm c.names d.names
-  pub funs : Pairwise IsFunForm c.funs d.funs
+  pub names : AllZip IsNameForm c.names d.names
+  pub funs : AllZip IsFunForm c.funs d.funs
 
 pub record IsStubForm (s t : Stub) : Type 0 where
-  pub names : Pairwise IsNameForm s.names t.names
-  pub funs : Pairwise IsFunForm s.funs t.funs
-  pub classes : Pairwise IsClassForm s.classes t.classes
+  pub names : AllZip IsNameForm s.names t.names
+  pub funs : AllZip IsFunForm s.funs t.funs
+  pub classes : AllZip IsClassForm s.classes t.classes
 
 -- The lexemes are those of a stub, and this is what it means.
 pub record IsStubOf (ls : List Lexeme) (s : Stub) : Type 0 where

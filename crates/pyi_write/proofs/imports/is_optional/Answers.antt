@@ -1,4 +1,4 @@
-use Rattle.pyi_write.proofs.Joined.{two, not_two}
+use Rattle.type_terms.proofs.TextLemmas.{two, not_two}
 use Rattle.pyi_write.proofs.imports.is_optional.Goals as goal
 
 pub returns-then-members-eq2 : goal.returns-then-members-eq2
