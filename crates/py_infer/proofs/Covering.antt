@@ -4,6 +4,7 @@ use Rattle.std.specs.Str.{bytes_eq}
 use Rattle.std.proofs.lemmas.List.{append-nil}
 use Rattle.std.proofs.lemmas.Option.{IfSome_then}
 use Rattle.outside_io.specs.Outside.{Files, Takes}
+use Rattle.pyi_write.specs.Layout.{stub_text}
 use Rattle.py_infer.specs.declared.answer.Answer.{Answer}
 use Rattle.py_infer.specs.declared.plain_type.PlainType.{PlainType}
 use Rattle.py_infer.specs.declared.status.Status.{Status as Ending}
@@ -11,7 +12,7 @@ use Rattle.py_infer.specs.declared.status.Status.TheVariants as status
 use Rattle.py_infer.specs.Answers.{clean, refused}
 use Rattle.py_infer.specs.Lines.{Value, nothing, truth, number, fraction, text, octets, Expression, literal, name, Line, Held, meaning, assigned, carried, nothing_held, type_of, Belongs}
 use Rattle.py_infer.specs.Outputs.{Seen, AreTaken, HoldsModule, HoldsRefused, IsAsked, for_usage, for_unread, for_refused, for_clean, IsDelivered, AreCovered}
-use Rattle.py_infer.specs.Stubs.{Rows, stub_text, AreRowsOf}
+use Rattle.py_infer.specs.Stubs.{Rows, stub_of, AreRowsOf}
 use Rattle.py_infer.specs.Words.{Accepts}
 
 -- a value belongs to its own type
@@ -58,7 +59,7 @@ took_none (Some taken) new took = took ∙ ap Some (append-nil taken)
 
 module _ (words : List (List ℕ)) (before after : ℕ) (last : Option (List ℕ)) (answer : Answer) (out note : Seen) (ending : Ending) where
   abbrev Written : Files → Type 0
-  Written files = (file : List ℕ) × (lines : List Line) × (rows : Rows) × Accepts words file × HoldsModule files file lines × Takes out.old out.new (stub_text rows) × AreCovered lines rows
+  Written files = (file : List ℕ) × (lines : List Line) × (rows : Rows) × Accepts words file × HoldsModule files file lines × Takes out.old out.new (stub_text (stub_of rows)) × AreCovered lines rows
 
   taken : (held : Option Files) → IsAsked words held before after last answer → IsDelivered answer out note ending → ending ≡ status.Clean → (stub : List ℕ) → answer ≡ clean stub → Takes out.old out.new stub
   taken held asked (inl (took, ends)) is stub same = subst (λ t. Takes out.old out.new t) (ap (λ (a : Answer). a.out) same) took.0
@@ -75,7 +76,7 @@ module _ (words : List (List ℕ)) (before after : ℕ) (last : Option (List ℕ
   clean_covers held (for_refused file report accepts holds same) delivered is = absurd (other held status.Refused delivered is (ap (λ (a : Answer). a.status) same) (λ h. cc))
   clean_covers held (for_clean file lines rows accepts holds are same) delivered is =
       IfSome_then held holds
-      (λ files h. (file, lines, rows, accepts, h, taken held (for_clean file lines rows accepts holds are same) delivered is (stub_text rows) same, rows_cover lines rows are))
+      (λ files h. (file, lines, rows, accepts, h, taken held (for_clean file lines rows accepts holds are same) delivered is (stub_text (stub_of rows)) same, rows_cover lines rows are))
 
   -- the call ended otherwise than it asked for
   unlike : (wanted state : Ending) → IsDelivered answer out note ending → ending ≡ wanted → answer.status ≡ state → (state ≡ wanted → ⊥) → (status.WriteFault ≡ wanted → ⊥) → ⊥
@@ -98,10 +99,10 @@ module _ (words : List (List ℕ)) (before after : ℕ) (last : Option (List ℕ
 
   -- a clean call put the stub of the module's lines
   pub clean_says : (held : Option Files) → IsAsked words held before after last answer → IsDelivered answer out note ending → ending ≡ status.Clean →
-      (file : List ℕ) × (lines : List Line) × (rows : Rows) × Accepts words file × IfSome held (λ files. HoldsModule files file lines) × AreRowsOf lines rows × Takes out.old out.new (stub_text rows) × (note.new ≡ note.old)
+      (file : List ℕ) × (lines : List Line) × (rows : Rows) × Accepts words file × IfSome held (λ files. HoldsModule files file lines) × AreRowsOf lines rows × Takes out.old out.new (stub_text (stub_of rows)) × (note.new ≡ note.old)
   clean_says held (for_usage none same) delivered is = absurd (unlike status.Clean status.Usage delivered is (ap (λ (a : Answer). a.status) same) (λ h. cc) (λ h. cc))
   clean_says held (for_unread file accepts unread same) delivered is = absurd (unlike status.Clean status.ReadFault delivered is (ap (λ (a : Answer). a.status) same) (λ h. cc) (λ h. cc))
   clean_says held (for_refused file report accepts holds same) delivered is = absurd (unlike status.Clean status.Refused delivered is (ap (λ (a : Answer). a.status) same) (λ h. cc) (λ h. cc))
   clean_says held (for_clean file lines rows accepts holds are same) delivered is =
-      let took = both_taken status.Clean (clean (stub_text rows)) delivered is (λ h. cc) same in
+      let took = both_taken status.Clean (clean (stub_text (stub_of rows))) delivered is (λ h. cc) same in
       (file, lines, rows, accepts, holds, are, took.0, took_none note.old note.new took.1)

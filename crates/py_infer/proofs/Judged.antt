@@ -17,10 +17,11 @@ use Rattle.scope_rules.specs.Answers.{told_as, told}
 use Rattle.scope_rules.specs.Faults.{first, faults}
 use Rattle.built_forms.specs.Least.{lesser, least_from, least}
 use Rattle.built_forms.specs.Unbuilt.{unbuilt}
+use Rattle.pyi_write.specs.Layout.{stub_text}
 use Rattle.py_infer.specs.FaultNames.{fault_line, fault_name, rule_name, scope_line, scope_name}
 use Rattle.py_infer.specs.Judging.{IsStubOf, IsStubOfTokens, IsStubOfTree}
 use Rattle.py_infer.specs.Modules.{lines_of}
-use Rattle.py_infer.specs.Stubs.{Rows, AreRowsOf, stub_text}
+use Rattle.py_infer.specs.Stubs.{Rows, AreRowsOf, stub_of}
 use Rattle.py_infer.specs.Reports.{line_report, whole_report, RefusesTree, for_rule, RefusesTokens, for_tree, Refuses, for_bytes, for_fault, for_text}
 
 some_of_least : (line : ℕ) (lines : List ℕ) → None ≡ least_from (Some line) lines → ⊥
@@ -77,7 +78,7 @@ none_broken m is = by_first (first (faults m)) refl is
     by_first (Some fault) broken h = absurd (cc)
 
 -- what a tree that is built gives is its stub
-pub stub_of_tree : (m : Module) (rows : Rows) (stub : List ℕ) → first (faults m) ≡ None → unbuilt m ≡ [] → AreRowsOf (lines_of m) rows → stub ≡ stub_text rows → IsStubOfTree m stub
+pub stub_of_tree : (m : Module) (rows : Rows) (stub : List ℕ) → first (faults m) ≡ None → unbuilt m ≡ [] → AreRowsOf (lines_of m) rows → stub ≡ stub_text (stub_of rows) → IsStubOfTree m stub
 stub_of_tree m rows stub lawful built are said = record { rows = rows; lawful = lawful; built = built; rows_are = are; text = said }
 
 -- ---- tokens and bytes

@@ -1,6 +1,7 @@
 -- What a call has to answer, and what the sinks then take.
 use Rattle.std.specs.Prelude.{◌≡◌, ℕ, ◌<◌, ◌⊎◌, List, length, take, Option, Some, IfSome, IsSomeAnd}
 use Rattle.outside_io.specs.Outside.{Files, Rose, Takes}
+use Rattle.pyi_write.specs.Layout.{stub_text}
 use Rattle.py_infer.specs.declared.answer.Answer.{Answer}
 use Rattle.py_infer.specs.declared.status.Status.{Status as Ending}
 use Rattle.py_infer.specs.declared.status.Status.TheVariants as status
@@ -8,7 +9,7 @@ use Rattle.py_infer.specs.Answers.{usage, unread, refused, clean}
 use Rattle.py_infer.specs.Lines.{Line, Value, values_after, Belongs}
 use Rattle.py_infer.specs.Modules.{IsModule}
 use Rattle.py_infer.specs.Reports.{Refuses}
-use Rattle.py_infer.specs.Stubs.{Rows, AreRowsOf, stub_text, type_in}
+use Rattle.py_infer.specs.Stubs.{Rows, AreRowsOf, stub_of, type_in}
 use Rattle.py_infer.specs.Words.{Accepts, IsUnaccepted}
 
 -- the file of this name is held, and is a plain module with these lines
@@ -34,7 +35,7 @@ pub data IsAsked (words : List (List ℕ)) (held : Option Files) (before after :
   for_refused : (file report : List ℕ) → Accepts words file → IfSome held (λ files. HoldsRefused files file report) → answer ≡ refused file report → IsAsked words held before after last answer
   -- The file is a plain module, and this is its stub.
   for_clean : (file : List ℕ) (lines : List Line) (rows : Rows) → Accepts words file → IfSome held (λ files. HoldsModule files file lines) →
-      AreRowsOf lines rows → answer ≡ clean (stub_text rows) → IsAsked words held before after last answer
+      AreRowsOf lines rows → answer ≡ clean (stub_text (stub_of rows)) → IsAsked words held before after last answer
 
 -- A sink before a call and after it: what it had taken, and how often it had failed.
 pub record Seen : Type 0 where

@@ -1,12 +1,14 @@
 -- The stub of a plain module.
-use Rattle.std.specs.Prelude.{◌≡◌, ℕ, List, [], ◌∷◌, ◌++◌, map, codes, Option, String, string_bytes}
+use Rattle.std.specs.Prelude.{◌≡◌, ℕ, List, [], map, Option, String, string_bytes}
 use Rattle.std.specs.declared.alloc.Global.{Global}
 use Rattle.std.specs.Cmp.Lexicographic.{slice_cmp}
-use Rattle.std.specs.List.{flat_map}
 use Rattle.std.specs.List.Sorted.{IsStrictlySortedBy}
 use Rattle.std.specs.Map.{lookup}
 use Rattle.std.specs.Ordering.{nat_cmp}
 use Rattle.std.specs.Str.{bytes_eq}
+use Rattle.type_terms.specs.Stubs.{Name, Stub}
+use Rattle.type_terms.specs.Terms as term
+use Rattle.type_terms.specs.Terms.{Term}
 use Rattle.py_infer.specs.declared.plain_type.PlainType.{PlainType}
 use Rattle.py_infer.specs.declared.plain_type.PlainType.TheVariants as type
 use Rattle.py_infer.specs.Lines.{Line, types_after}
@@ -35,19 +37,19 @@ pub record AreRowsOf (lines : List Line) (rows : Rows) : Type 0 where
   pub ordered : IsStrictlySortedBy (slice_cmp nat_cmp) (names_of rows)
   pub exact : (n : List ℕ) → type_in rows n ≡ types_after lines n
 
--- how a stub spells the type
-abbrev pub type_text : PlainType → List ℕ
-type_text type.NoneType = codes "None"
-type_text type.Bool = codes "bool"
-type_text type.Int = codes "int"
-type_text type.Float = codes "float"
-type_text type.Str = codes "str"
-type_text type.Bytes = codes "bytes"
+-- the type's term
+abbrev pub term_of : PlainType → Term
+term_of type.NoneType = term.none
+term_of type.Bool = term.bool
+term_of type.Int = term.int
+term_of type.Float = term.float
+term_of type.Str = term.str
+term_of type.Bytes = term.bytes
 
--- `NAME: TYPE` on a line of its own
-abbrev pub row_text : Row → List ℕ
-row_text row = row.0 ++ codes ": " ++ type_text row.1 ++ 10 ∷ []
+-- a name with its type, as a stub declares it
+abbrev pub name_of : Row → Name
+name_of row = record { name = row.0; term = term_of row.1 }
 
--- the stub: the lines of the rows, one after another
-abbrev pub stub_text : Rows → List ℕ
-stub_text rows = flat_map row_text rows
+-- the stub of the rows: it declares the names and nothing else
+abbrev pub stub_of : Rows → Stub
+stub_of rows = record { names = map name_of rows; funs = []; classes = [] }

@@ -14,6 +14,7 @@ use py_parse::parse;
 use py_scope::scope;
 use py_tokens::{Tokens, tokens};
 use py_tree::Module;
+use pyi_write::stub_text;
 use scope_rules::ScopeFault;
 use std::alloc::{AllocError, Global};
 
@@ -72,7 +73,8 @@ fn judged_forms(alloc: Global, module: &Module) -> Result<Result<Text, Text>, Al
         Some(line) => Ok(Err(line_report(alloc, line.number(), "out-of-profile later")?)),
         None => {
             let types = types_of(alloc, module)?;
-            Ok(Ok(types.stub()?))
+            let stub = types.stub()?;
+            Ok(Ok(stub_text(alloc, &stub)?))
         }
     }
 }

@@ -1,5 +1,9 @@
 //! The types of a plain module's names.
 ghost use Rattle.std.specs.Prelude.{◌≡◌};
+ghost use Rattle.type_terms.specs.View.{term_view};
+ghost use Rattle.py_infer.specs.Stubs.{term_of};
+
+use type_terms::TypeTerm;
 
 /// A type that a stub prints.
 #[derive(Clone, Copy, Debug, PartialEq, Eq)]
@@ -13,19 +17,17 @@ pub enum PlainType {
 }
 
 impl PlainType {
-    ghost use Rattle.py_infer.specs.Stubs.{type_text};
-
-    /// How a stub spells the type.
-    pub fn text(self) -> &'static str
-        ensures { result.now ≡ type_text self }
+    /// The term of the type.
+    pub fn term(self) -> TypeTerm
+        ensures { term_view result ≡ term_of self }
     {
         match self {
-            PlainType::NoneType => "None",
-            PlainType::Bool => "bool",
-            PlainType::Int => "int",
-            PlainType::Float => "float",
-            PlainType::Str => "str",
-            PlainType::Bytes => "bytes",
+            PlainType::NoneType => TypeTerm::NoneTerm,
+            PlainType::Bool => TypeTerm::Bool,
+            PlainType::Int => TypeTerm::Int,
+            PlainType::Float => TypeTerm::Float,
+            PlainType::Str => TypeTerm::Str,
+            PlainType::Bytes => TypeTerm::Bytes,
         }
     }
 }

@@ -1,11 +1,12 @@
 //! The top call: from the words to the sinks.
 ghost use Rattle.std.specs.Prelude.{◌≡◌, ◌≢◌, ◌⊎◌, ℕ, List, IfOk, IfSome, IsSomeAnd};
 ghost use Rattle.outside_io.specs.Outside.{Rose, Takes};
+ghost use Rattle.pyi_write.specs.Layout.{stub_text};
 ghost use Rattle.py_infer.specs.declared.answer.Answer.{Answer as Answer'};
 ghost use Rattle.py_infer.specs.Answers.{refused, unread, usage};
 ghost use Rattle.py_infer.specs.Lines.{Line};
 ghost use Rattle.py_infer.specs.Outputs.{AreCovered, AreCut, HoldsModule, HoldsRefused, IsAsked, IsCut, IsDelivered, IsUnread, seen};
-ghost use Rattle.py_infer.specs.Stubs.{AreRowsOf, Rows, stub_text};
+ghost use Rattle.py_infer.specs.Stubs.{AreRowsOf, Rows, stub_of};
 ghost use Rattle.py_infer.specs.Words.{Accepts, IsUnaccepted, texts_of};
 
 use crate::answer::Answer;
@@ -95,14 +96,14 @@ pub fn run<S: Shelf, O: Sink, E: Sink>(
     // Clean comes where the file is a plain module, with exactly its stub.
     ensures clean { result ≡ Status.Clean → (file : List ℕ) × (lines : List Line) × (rows : Rows) × Accepts (texts_of words.now) file
         × IfSome (S.held shelf.old) (λ files. HoldsModule files file lines) × AreRowsOf lines rows
-        × Takes (O.taken out.old) (O.taken out.new) (stub_text rows) × (E.taken note.new ≡ E.taken note.old) }
+        × Takes (O.taken out.old) (O.taken out.new) (stub_text (stub_of rows)) × (E.taken note.new ≡ E.taken note.old) }
     ensures clean_always { (file : List ℕ) (lines : List Line) → Accepts (texts_of words.now) file → IsSomeAnd (S.held shelf.old) (λ files. HoldsModule files file lines)
         → (result ≡ Status.Clean) ⊎ (result ≡ Status.ReadFault) ⊎ IsCut result }
 
     // In the run of the module, each name's value after the last line belongs to the type that the stub prints for it.
     ensures covered { result ≡ Status.Clean → IfSome (S.held shelf.old) (λ files. (file : List ℕ) × (lines : List Line) × (rows : Rows)
         × Accepts (texts_of words.now) file × HoldsModule files file lines
-        × Takes (O.taken out.old) (O.taken out.new) (stub_text rows) × AreCovered lines rows) }
+        × Takes (O.taken out.old) (O.taken out.new) (stub_text (stub_of rows)) × AreCovered lines rows) }
 
     // Where nothing fails, a plain module is answered.
     ensures complete { (file : List ℕ) (lines : List Line) → Accepts (texts_of words.now) file → IsSomeAnd (S.held shelf.old) (λ files. HoldsModule files file lines)

@@ -1,16 +1,19 @@
 //! The types of names, in the order of the names' bytes.
-ghost use Rattle.std.specs.Prelude.{◌≡◌, ℕ, [], List, IfOk, OnOk, Some, if◌then◌else◌};
+ghost use Rattle.std.specs.Prelude.{◌≡◌, ℕ, [], List, map, IfOk, OnOk, Some, if◌then◌else◌};
 ghost use Rattle.std.specs.Cmp.Lexicographic.{slice_cmp};
 ghost use Rattle.std.specs.List.Sorted.{IsStrictlySortedBy};
 ghost use Rattle.std.specs.Map.{lookup};
 ghost use Rattle.std.specs.Ordering.{nat_cmp};
 ghost use Rattle.std.specs.Str.{bytes_eq};
+ghost use Rattle.type_terms.specs.Stubs.{name_view, stub_view};
+ghost use Rattle.py_infer.specs.Stubs.{name_of, names_of, stub_of, type_in};
 
 use crate::plain_type::PlainType;
-use place_ids::Text;
+use place_ids::{Sequence, Text};
 use std::alloc::{AllocError, Global};
 use std::collections::BTreeMap;
 use std::marker::Model;
+use type_terms::{Stub, StubName};
 
 /// The type of each name. Contracts see the names with their types, in the order of the names' bytes.
 #[derive(Drop)]
@@ -28,8 +31,6 @@ impl Model for Types {
 }
 
 impl Types {
-    ghost use Rattle.py_infer.specs.Stubs.{names_of, stub_text, type_in};
-
     /// No types. It takes no memory.
     pub fn new(alloc: Global) -> Types
         ensures { result ≡ [] }
@@ -57,17 +58,36 @@ impl Types {
         Ok(())
     }
 
-    /// The stub: a line `NAME: TYPE` for each name.
-    pub fn stub(&self) -> Result<Text, AllocError>
-        ensures { IfOk result (λ stub. stub ≡ stub_text self.now) }
+    /// The stub, which declares each name.
+    pub fn stub(&self) -> Result<Stub, AllocError>
+        ensures { IfOk result (λ stub. stub_view stub ≡ stub_of self.now) }
     {
-        let mut stub = Text::new(self.alloc);
-        for (name, plain_type) in &self.types {
-            stub.push(name.as_bytes())?;
-            stub.push(b": ".as_slice())?;
-            stub.push(plain_type.text().as_bytes())?;
-            stub.push(b"\n".as_slice())?;
-        }
-        Ok(stub)
+        Ok(Stub {
+            names: self.names()?,
+            funs: Sequence::new(self.alloc),
+            classes: Sequence::new(self.alloc),
+        })
     }
+
+    // The names, each with its type's term.
+    fn names(&self) -> Result<Sequence<StubName>, AllocError>
+        ensures { IfOk result (λ names. map name_view names ≡ map name_of self.now) }
+    {
+        let mut names = Sequence::new(self.alloc);
+        for (name, plain_type) in &self.types {
+            names.push(stub_name(self.alloc, name.as_bytes(), *plain_type)?)?;
+        }
+        Ok(names)
+    }
+}
+
+fn stub_name(alloc: Global, name: &[u8], plain_type: PlainType) -> Result<StubName, AllocError>
+    ensures { IfOk result (λ own. name_view own ≡ name_of (name.now, plain_type)) }
+{
+    let mut own = Text::new(alloc);
+    own.push(name)?;
+    Ok(StubName {
+        name: own,
+        term: plain_type.term(),
+    })
 }
