@@ -1,0 +1,10 @@
+pub mod Bodies
+pub mod Emitting
+pub mod Finishing
+pub mod Heads
+pub mod Loops
+pub mod PlainKinds
+pub mod Simple
+pub mod Steps
+pub mod Tabling
+pub mod Views

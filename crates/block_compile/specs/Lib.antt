@@ -1,0 +1,4 @@
+pub mod Compiled
+pub mod Emits
+pub mod PlaceOf
+pub mod Tabled
