@@ -10,7 +10,7 @@ pub enum Truth {
 }
 
 /// What an edge asks of a shape.
-#[derive(Clone, Copy, Debug, PartialEq, Eq)]
+#[derive(Clone, Copy, Debug, PartialEq, Eq, Hash)]
 pub enum Test {
     MayBeTrue,
     MayBeFalse,
@@ -18,14 +18,14 @@ pub enum Test {
 }
 
 /// A variable, and what its shape has to pass.
-#[derive(Clone, Copy, Debug, PartialEq, Eq)]
+#[derive(Clone, Copy, Debug, PartialEq, Eq, Hash)]
 pub struct Ask {
     pub var: VarId,
     pub test: Test,
 }
 
 /// A way from a point to the next. One that assigns gives the target of its start the shape of a fact there.
-#[derive(Clone, Copy, Debug, PartialEq, Eq)]
+#[derive(Clone, Copy, Debug, PartialEq, Eq, Hash)]
 pub struct Edge {
     pub from: PointId,
     pub to: PointId,

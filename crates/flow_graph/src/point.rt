@@ -1,9 +1,10 @@
 //! A point, and the edges that lead to it.
-ghost use Rattle.std.specs.Prelude.{◌≡◌, ◌↔◌, ◌∷◌, ◌++◌, [], true, false, Ok, IsTrue, OnOk, OnErr};
+ghost use Rattle.std.specs.Prelude.{◌≡◌, ◌∷◌, ◌++◌, [], true, false, Ok, OnErr};
 ghost use Rattle.std.specs.List.{Contains};
 
 use crate::{Ask, Edge, Test};
-use place_ids::{Sequence, VarId};
+use indexmap::IndexSet;
+use place_ids::VarId;
 use std::alloc::{AllocError, Global};
 use std::marker::Model;
 
@@ -12,7 +13,7 @@ use std::marker::Model;
 pub struct Point {
     target: Option<VarId>,
     root: bool,
-    into: Sequence<Edge>,
+    into: IndexSet<Edge>,
 }
 
 impl Model for Point {
@@ -20,7 +21,7 @@ impl Model for Point {
 
     ghost Value = { PointRow };
 
-    ghost view = { λ p. record { target = p.target; root = p.root; into = p.into } };
+    ghost view = { λ p. record { target = p.target; root = p.root; into = p.into.keys } };
 }
 
 impl Point {
@@ -30,7 +31,7 @@ impl Point {
         Point {
             target,
             root,
-            into: Sequence::new(alloc),
+            into: IndexSet::new(alloc),
         }
     }
 
@@ -49,22 +50,7 @@ impl Point {
     pub fn into(&self) -> &[Edge]
         ensures { result.now ≡ self.now.into }
     {
-        self.into.items()
-    }
-
-    fn has(&self, edge: &Edge) -> bool
-        ensures { IsTrue result ↔ Contains self.now.into edge.now }
-    {
-        self.into.items().contains(edge)
-    }
-
-    fn push(&mut self, edge: Edge) -> Result<(), AllocError>
-        ensures pushed { OnOk result (self.new ≡ record self.old { into = self.old.into ++ edge ∷ [] }) }
-        ensures refused { OnErr result (self.new ≡ self.old) }
-    {
-        // The check finds the types within an edge only where a function names them.
-        let _within: (Option<Ask>, Option<Test>) = (None, None);
-        self.into.push(edge)
+        self.into.as_slice()
     }
 
     /// Adds an edge, unless the point has it.
@@ -73,12 +59,11 @@ impl Point {
         ensures known { result ≡ Ok false → Contains self.old.into edge × (self.new ≡ self.old) }
         ensures refused { OnErr result (self.new ≡ self.old) }
     {
-        if self.has(&edge) {
-            return Ok(false);
-        }
-        match self.push(edge) {
-            Ok(()) => Ok(true),
-            Err(fault) => Err(fault),
+        // The check finds the types within an edge only where a function names them.
+        let _within: (Option<Ask>, Option<Test>) = (None, None);
+        match self.into.insert(edge) {
+            Ok(fresh) => Ok(fresh),
+            Err(_) => Err(AllocError),
         }
     }
 }

@@ -1,8 +1,12 @@
 pub mod Tables
 pub mod Wanted
-pub mod Exact
-pub mod Grown
+pub mod Meetings
+pub mod Sets
+pub mod Ahead
 pub mod Searching
+pub mod Over
 pub mod Memory
 pub mod Additions
+pub mod MoreShapes
 pub mod Drafts
+pub mod Answering

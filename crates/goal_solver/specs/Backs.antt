@@ -1,9 +1,8 @@
--- The back states of a state over one edge, as lists.
-use Rattle.std.specs.Prelude.{◌≡◌, ℕ, Bool, true, false, not, cond, Option, Some, None, List, [], ◌∷◌, ◌++◌, nat_eq, map, slice_get}
-use Rattle.std.specs.List.{Contains, flat_map, filter}
+-- The back states of a state, as the code comes to them.
+use Rattle.std.specs.Prelude.{◌≡◌, ℕ, Bool, true, false, not, cond, Option, Some, None, List, [], ◌∷◌, ◌++◌, nat_eq, slice_get}
+use Rattle.std.specs.List.{Contains, filter}
 use Rattle.std.specs.Option.{option_to_list}
 use Rattle.graph_walks.specs.Worlds as worlds
-use Rattle.graph_walks.specs.Worlds.{Memory}
 use Rattle.graph_walks.specs.Backs.{Asks, BackState}
 use Rattle.flow_graph.specs.declared.edge.Truth.{Truth}
 use Rattle.flow_graph.specs.declared.edge.Truth.TheVariants.{Yes, No, Both}
@@ -14,11 +13,10 @@ use Rattle.flow_graph.specs.declared.edge.Edge.{Edge}
 use Rattle.flow_graph.specs.Flows.{target_of}
 use Rattle.typegraph.specs.declared.fact.Fact.{Fact}
 use Rattle.typegraph.specs.declared.goals.Binding.{Binding}
-use Rattle.typegraph.specs.Maps.{look, gathered}
+use Rattle.typegraph.specs.Maps.{look, IsJoined}
 use Rattle.typegraph.specs.Graphs.{GraphTables, row_of}
 use Rattle.goal_solver.specs.declared.state.State.{State}
-use Rattle.goal_solver.specs.Graphs.{world_of, ask_as}
-use Rattle.goal_solver.specs.States.{state_of}
+use Rattle.goal_solver.specs.Graphs.{world_of, ask_as, edge_as}
 
 abbrev pub may_be_true : Option Truth → Bool
 may_be_true None = false
@@ -54,15 +52,28 @@ pub record AreAsked (g : GraphTables) (asks : Option Ask) (pairs : List (Option 
 abbrev pub wanted_list : Option ℕ → List Binding → List Binding → Option Binding → List Binding
 wanted_list target goals source pair = filter (λ b. not (is_var target b.var)) goals ++ (source ++ option_to_list pair)
 
-abbrev pub state_at : ℕ → Option (List Binding) → List State
-state_at point None = []
-state_at point (Some map) = record { point = point; goals = map } ∷ []
+-- an item of the list gives the state
+pub record FromSome {X : Type 0} (xs : List X) (Q : X → State → Type 0) (y : State) : Type 0 where
+  pub item : X
+  pub is : Contains xs item
+  pub at : Q item y
 
-abbrev pub with_source : ℕ → Option ℕ → List Binding → List (Option Binding) → List Binding → List State
-with_source from target goals pairs source = flat_map (λ pair. state_at from (gathered (wanted_list target goals source pair) [])) pairs
+-- the state at the point in which exactly this is wanted, if no variable has two shapes there
+pub record IsBefore (from : ℕ) (target : Option ℕ) (goals source : List Binding) (pair : Option Binding) (y : State) : Type 0 where
+  pub point : y.point ≡ from
+  pub joined : IsJoined [] (wanted_list target goals source pair) (Some y.goals)
 
-abbrev pub with_facts : ℕ → Option ℕ → List Binding → List (Option Binding) → ℕ → List Fact → List State
-with_facts from target goals pairs shape facts = flat_map (λ f. cond (nat_eq f.shape shape) (with_source from target goals pairs f.source) []) facts
+abbrev pub BySource : ℕ → Option ℕ → List Binding → List (Option Binding) → List Binding → State → Type 0
+BySource from target goals pairs source = FromSome pairs (IsBefore from target goals source)
+
+-- by a fact at one of the places
+pub record IsByPlace (from : ℕ) (target : Option ℕ) (goals : List Binding) (pairs : List (Option Binding)) (facts : List Fact) (place : ℕ) (y : State) : Type 0 where
+  pub fact : Fact
+  pub at : slice_get facts place ≡ Some fact
+  pub by : BySource from target goals pairs fact.source y
+
+abbrev pub ByFact : ℕ → Option ℕ → List Binding → List (Option Binding) → List Fact → List ℕ → State → Type 0
+ByFact from target goals pairs facts places = FromSome places (IsByPlace from target goals pairs facts)
 
 abbrev pub look_at : List Binding → Option ℕ → Option ℕ
 look_at goals None = None
@@ -71,15 +82,10 @@ look_at goals (Some v) = look goals v
 abbrev pub assigned_by : GraphTables → Edge → Option ℕ
 assigned_by g e = cond e.assigns (target_of (slice_get g.flow.points e.from)) None
 
-abbrev pub over_wanted : GraphTables → Edge → List Binding → List (Option Binding) → Option ℕ → List State
-over_wanted g e goals pairs None = with_source e.from (assigned_by g e) goals pairs []
-over_wanted g e goals pairs (Some shape) = with_facts e.from (assigned_by g e) goals pairs shape (row_of (slice_get g.facts e.from))
-
--- what is added over an edge
-pub record IsOver (g : GraphTables) (goals : List Binding) (e : Edge) (old new : List State) : Type 0 where
-  pub pairs : List (Option Binding)
-  pub asked : AreAsked g e.asks pairs
-  pub is : new ≡ old ++ over_wanted g e goals pairs (look_at goals (assigned_by g e))
+-- a back state over an edge
+pub record IsOverEdge (g : GraphTables) (goals : List Binding) (e : Edge) (y : State) : Type 0 where
+  pub point : y.point ≡ e.from
+  pub is : BackState (world_of g) (edge_as e) (look goals) (look y.goals)
 
 -- a back state over an edge that leads to the state's point
 pub record IsBackOf (g : GraphTables) (x y : State) : Type 0 where
@@ -87,8 +93,3 @@ pub record IsBackOf (g : GraphTables) (x y : State) : Type 0 where
   pub to : edge.to ≡ x.point
   pub from : edge.from ≡ y.point
   pub is : BackState (world_of g) edge (look x.goals) (look y.goals)
-
--- the back states of a state, as maps
-pub record AreBacks (g : GraphTables) (x : State) (backs : List State) : Type 0 where
-  pub sound : (y : State) → Contains backs y → IsBackOf g x y
-  pub complete : (e : worlds.Edge ℕ ℕ ℕ) (before : Memory ℕ ℕ) → e.to ≡ x.point → BackState (world_of g) e (look x.goals) before → Contains (map state_of backs) (e.from, before)

@@ -17,6 +17,13 @@ pub fn sound_after_growth()
     ensures { (s : SolverState) (old new : GraphTables) → IsWithin (world_of old) (world_of new) → IsSound s old → IsSound (grown s) new }
 {}
 
+/// A new variable, context or shape leaves what is remembered right, without `grown`.
+pub fn sound_without_growth()
+    ensures var { (s : SolverState) (g : GraphTables) → IsSound s g → IsSound s (with_flow (with_var g.flow) g) }
+    ensures context { (s : SolverState) (g : GraphTables) (context : Context) → IsSound s g → IsSound s (with_flow (with_context context g.flow) g) }
+    ensures shape { (s : SolverState) (g : GraphTables) (truth : Truth) → IsValid g → IsSound s g → IsSound s (with_shape truth g) }
+{}
+
 /// Each addition to a graph leaves a world that has all of the world before.
 pub fn additions_grow()
     ensures var { (g : GraphTables) → IsWithin (world_of g) (world_of (with_flow (with_var g.flow) g)) }

@@ -4,8 +4,10 @@
 mod back;
 pub mod laws;
 mod search;
+mod seek;
 mod solver;
 mod state;
+mod state_set;
 #[cfg(test)]
 mod tests;
 

@@ -65,3 +65,14 @@ module _ {P V S : Type 0} (old new : World P V S) (grown : IsWithin old new) whe
   pub seen_stays : (q : P) (g : Memory V S) (budget : ℕ) → Seen old q g budget → Seen new q g budget
   seen_stays q g budget (inl v) = inl (visible_stays q g v)
   seen_stays q g budget (inr h) = inr (heavy_stays q g budget h.0, record { at = λ v s i. gives_on v s (h.1.at v s i) })
+
+pub within_on : {P V S : Type 0} (old new newer : World P V S) → IsWithin old new → IsWithin new newer → IsWithin old newer
+within_on old new newer a b =
+    record {
+      edges = λ e c. b.edges e (a.edges e c);
+      facts = λ f c. b.facts f (a.facts f c);
+      edge_targets = λ e c. a.edge_targets e c ∙ b.edge_targets e (a.edges e c);
+      fact_targets = λ f c. a.fact_targets f c ∙ b.fact_targets f (a.facts f c);
+      roots = λ p h. b.roots p (a.roots p h);
+      truths = λ s t h. b.truths s t (a.truths s t h);
+    }

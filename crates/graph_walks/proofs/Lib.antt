@@ -4,3 +4,4 @@ pub mod RootLaw
 pub mod Closure
 pub mod Growing
 pub mod Renaming
+pub mod Alike

@@ -66,12 +66,12 @@ module _ {V S V' S' : Type 0} (vars : Names V V') (shapes : Names S S') where
           let ss : p.shape ≡ s = some_same (sym (shapes.named p.shape x.1.0 p.shape_is) ∙ shapes.named s x.1.0 x.1.1) in
           ap b (sym sv) ∙ p.at ∙ ap Some ss
 
-  named_back : (m : Memory V S) → HasNames (swapped vars) (swapped shapes) (renamed vars shapes m)
+  pub named_back : (m : Memory V S) → HasNames (swapped vars) (swapped shapes) (renamed vars shapes m)
   unfolding swapped
   named_back m = record { at = λ v' s' h. let p : NamedPair vars shapes m v' s' = pair_at m v' s' h in ((p.var, vars.named p.var v' p.var_is), (p.shape, shapes.named p.shape s' p.shape_is)) }
 
 -- there and back
-renamed_back : {V S V' S' : Type 0} (vars : Names V V') (shapes : Names S S') (m : Memory V S) → HasNames vars shapes m → renamed (swapped vars) (swapped shapes) (renamed vars shapes m) ≡ m
+pub renamed_back : {V S V' S' : Type 0} (vars : Names V V') (shapes : Names S S') (m : Memory V S) → HasNames vars shapes m → renamed (swapped vars) (swapped shapes) (renamed vars shapes m) ≡ m
 unfolding swapped
 renamed_back {V} {S} {V'} {S'} vars shapes m n = same_by_pairs vars shapes (renamed (swapped vars) (swapped shapes) (renamed vars shapes m)) m from to
   where

@@ -1,9 +1,9 @@
 -- A query is visible exactly where a root with nothing wanted is reached from it.
-use Rattle.std.proofs.Common.{◌≡◌, ◌≢◌, ◌↔◌, Bool, true, false, cond, Option, Some, None, ◌⊎◌, inl, inr, refl, sym, ap, subst, ◌∙◌}
+use Rattle.std.proofs.Common.{◌≡◌, ◌≢◌, ◌↔◌, ℕ, Bool, true, false, cond, Option, Some, None, ◌⊎◌, inl, inr, refl, sym, ap, subst, ◌∙◌}
 use Rattle.graph_walks.specs.Worlds.{Memory, nothing, Within, Ask, Edge, World, HasFact, assigned, Gives, AllGiven}
 use Rattle.graph_walks.specs.Walks.{Answers, unasked, passes, Comes, kept, made, Step, Walk, start, step, Visible}
 use Rattle.graph_walks.specs.Backs as backs
-use Rattle.graph_walks.specs.Backs.{Wanted, still, by_source, by_ask, Explains, unwanted, by_fact, Asks, asked, BackState, Reached, here, back, RootReached}
+use Rattle.graph_walks.specs.Backs.{Wanted, still, by_source, by_ask, Explains, unwanted, by_fact, Asks, asked, BackState, Reached, here, back, RootReached, Seen}
 
 pub some_same : {A : Type 0} {x y : A} → Some x ≡ Some y → x ≡ y
 some_same e = cc
@@ -47,6 +47,10 @@ module _ {P V S : Type 0} (w : World P V S) where
 
   pub visible_given : (q : P) (g : Memory V S) → Visible w q g → AllGiven w g
   visible_given q g v = record { at = λ u s i. given_in v.walk u s (v.holds.at u s i) }
+
+  pub seen_given : (q : P) (g : Memory V S) (budget : ℕ) → Seen w q g budget → AllGiven w g
+  seen_given q g budget (inl v) = visible_given q g v
+  seen_given q g budget (inr h) = h.1
 
 module _ {P V S : Type 0} (w : World P V S) (same : Discrete V) where
   is_assigned : (d : Option V) (v : V) → Dec (d ≡ Some v)

@@ -4,7 +4,7 @@ ghost use Rattle.graph_walks.specs.Worlds.{Memory, Within, World, Gives, AllGive
 ghost use Rattle.graph_walks.specs.Walks.{Walk, Visible};
 ghost use Rattle.graph_walks.specs.Backs.{Reached, Heavy, RootReached, Seen};
 ghost use Rattle.graph_walks.specs.Growth.{IsWithin};
-ghost use Rattle.graph_walks.specs.Renamings.{Names, renamed, HasNames, IsRenamed};
+ghost use Rattle.graph_walks.specs.Renamings.{Names, own_names, renamed, HasNames, AreAlike, IsRenamed};
 
 /// The law under the solver: a query is visible exactly where a root with nothing wanted is among the states reached from it.
 pub fn visible_is_root_reached<P, V, S>()
@@ -40,4 +40,24 @@ pub fn kept_under_other_names<P, V, S, P2, V2, S2>()
     ensures seen { (points : Names P P2) (vars : Names V V2) (shapes : Names S S2) (w : World P V S) (other : World P2 V2 S2) → IsRenamed points vars shapes w other →
         (point : P) (name : P2) (goals : Memory V S) (budget : ℕ) → points.name point ≡ Some name → HasNames vars shapes goals →
         Seen w point goals budget ↔ Seen other name (renamed vars shapes goals) budget }
+{}
+
+/// What has all of a world that has all of another has all of that.
+pub fn growth_goes_on<P, V, S>()
+    ensures { (old new newer : World P V S) → IsWithin old new → IsWithin new newer → IsWithin old newer }
+{}
+
+/// What is seen has each of its pairs given by some fact.
+pub fn seen_is_given<P, V, S>()
+    ensures { (w : World P V S) (point : P) (goals : Memory V S) (budget : ℕ) → Seen w point goals budget → AllGiven w goals }
+{}
+
+/// A world is itself under its own names.
+pub fn own_names_rename<P, V, S>()
+    ensures { (w : World P V S) → IsRenamed own_names own_names own_names w w }
+{}
+
+/// Two worlds are the same under other names where each edge, fact, root, truth and target of the one has its like in the other.
+pub fn alike_are_renamed<P, V, S, P2, V2, S2>()
+    ensures { (points : Names P P2) (vars : Names V V2) (shapes : Names S S2) (w : World P V S) (other : World P2 V2 S2) → AreAlike points vars shapes w other → IsRenamed points vars shapes w other }
 {}

@@ -1,55 +1,78 @@
 -- When two lists of bindings are the same map.
-use Rattle.std.proofs.Common.{◌≡◌, ◌↔◌, ℕ, ◌+◌, ◌<◌, Bool, true, false, not, Option, Some, None, List, length, get_or, take, refl, sym, ap, subst, ◌∙◌, nat_eq, IsTrue}
-use Rattle.std.specs.List.{All}
-use Rattle.std.specs.Option.{option_eq}
-use Rattle.std.proofs.lemmas.List.Elements.{All-more, All-contains, Contains-get_or}
+use Rattle.std.proofs.Common.{rules, Decides, ◌≡◌, ◌↔◌, ℕ, suc, zero, ◌<◌, Bool, true, false, cond, Option, Some, None, List, [], ◌∷◌, ◌⊎◌, inl, inr, length, take, refl, sym, ap, subst, ◌∙◌, arith, nat_eq, IsTrue}
+use Rattle.std.specs.List.{All, Contains}
+use Rattle.std.specs.Cmp.Lexicographic.{pointwise}
 use Rattle.std.proofs.Math.Seq.{take-length}
+use lib.Pointwise.{pointwise_decides}
 use Rattle.typegraph.specs.declared.goals.Binding.{Binding}
-use Rattle.typegraph.specs.Maps.{look, IsOnce}
-use Rattle.typegraph.proofs.Looks.{equal, equal_as, look_finds, look_once}
-
-pub same_option : (a b : Option ℕ) → option_eq nat_eq a b ≡ true → a ≡ b
-same_option None None h = refl
-same_option None (Some b) h = cc
-same_option (Some a) None h = cc
-same_option (Some a) (Some b) h = ap Some (equal a b h)
-
-pub option_itself : (a b : Option ℕ) → a ≡ b → option_eq nat_eq a b ≡ true
-option_itself None None e = refl
-option_itself None (Some b) e = cc
-option_itself (Some a) None e = cc
-option_itself (Some a) (Some b) e = equal_as a b (let k : a ≡ b = cc in k)
-
-negated : (t r : Bool) → r ≡ not t → r ≡ false → t ≡ true
-negated true r e h = refl
-negated false r e h = cc
-
-abbrev pub IsIn : List Binding → Binding → Type 0
-IsIn whole b = look whole b.var ≡ Some b.shape
-
-pub in_more : (whole part : List Binding) (i : ℕ) (x : Binding) (found : Option ℕ) (differ : Bool) → i < length part → x ≡ get_or part i x → All (IsIn whole) (take i part) → found ≡ look whole x.var → differ ≡ not (option_eq nat_eq found (Some x.shape)) → differ ≡ false → All (IsIn whole) (take (i + 1) part)
-in_more whole part i x found differ l at h f e n = All-more (IsIn whole) part i x l h (subst (IsIn whole) at (sym f ∙ same_option found _ (negated _ differ e n)))
+use Rattle.typegraph.specs.Maps.{look, IsOnce, IsRising}
+use Rattle.typegraph.specs.Keys.{binding_eq}
+use Rattle.typegraph.proofs.Looks.{equal, equal_as, first_binding, binding_cases, look_finds, look_once}
 
 pub all_taken : {X : Type 0} (P : X → Type 0) (xs : List X) (i : ℕ) → i ≡ length xs → All P (take i xs) → All P xs
 all_taken P xs i e h = subst (λ ys. All P ys) (ap (λ n. take n xs) e ∙ take-length xs) h
 
-in_look : (part whole : List Binding) → All (IsIn whole) part → (v s : ℕ) → look part v ≡ Some s → look whole v ≡ Some s
-in_look part whole h v s e = All-contains (IsIn whole) part (record { var = v; shape = s }) h (look_finds part v s e)
+pub rising_once : (xs : List Binding) → IsRising xs → IsOnce xs
+rising_once xs rising i j d l k e = let h = rising i j d l k in omega (arith, h, e)
 
-pub same_by_in : (one other : List Binding) → All (IsIn other) one → All (IsIn one) other → look one ≡ look other
-same_by_in one other h k = λ i v. at v (look one v) refl (look other v) refl i
+pub rising_tail : (x : Binding) (xs : List Binding) → IsRising (x ∷ xs) → IsRising xs
+rising_tail x xs rising i j d l k = rising (suc i) (suc j) d (omega arith) (omega arith)
+
+-- the first binding stands before each other one
+pub rising_first : (x : Binding) (xs : List Binding) → IsRising (x ∷ xs) → (y : Binding) → Contains xs y → x.var < y.var
+rising_first x xs rising y (k, l, e) = subst (λ z. x.var < z.var) e (rising zero (suc k) y (omega arith) (omega arith))
+
+-- so its variable has no other one
+first_alone : (x : Binding) (xs : List Binding) → IsRising (x ∷ xs) → look xs x.var ≡ None
+first_alone x xs rising = go (look xs x.var) refl
   where
-    at : (v : ℕ) (x : Option ℕ) → look one v ≡ x → (y : Option ℕ) → look other v ≡ y → look one v ≡ look other v
-    at v (Some s) e y f = e ∙ sym (in_look one other h v s e)
-    at v None e None f = e ∙ sym f
-    at v None e (Some s) f = in_look other one k v s f ∙ sym f
+    go : (o : Option ℕ) → look xs x.var ≡ o → look xs x.var ≡ None
+    go None e = e
+    go (Some s) e = let l : x.var < x.var = rising_first x xs rising (record { var = x.var; shape = s }) (look_finds xs x.var s e) in absurd (omega (arith, l))
 
-pub in_by_same : (one other : List Binding) → IsOnce one → look one ≡ look other → All (IsIn other) one
-in_by_same one other once e k d l =
-    ap (λ m. m (get_or one k d).var) (sym e) ∙ look_once one (get_or one k d).var (get_or one k d).shape once (Contains-get_or one k d l)
+first_found : (x : Binding) (xs : List Binding) → look (x ∷ xs) x.var ≡ Some x.shape
+first_found x xs = ap (λ t. cond t (Some x.shape) (look xs x.var)) (equal_as x.var x.var refl)
 
-pub agree_both : (one other : List Binding) (r : Bool) → IsOnce one → IsOnce other → All (IsIn other) one → IsTrue r ↔ All (IsIn one) other → IsTrue r ↔ look one ≡ look other
-agree_both one other r a b h k = (λ t. same_by_in one other h (k.0 t), λ e. k.1 (in_by_same other one b (sym e)))
+-- two maps that give each variable the same shape have the same bindings
+pub rising_same : (one other : List Binding) → IsRising one → IsRising other → look one ≡ look other → one ≡ other
+rising_same [] [] a b e = refl
+rising_same [] (y ∷ ys) a b e = let k : None ≡ Some y.shape = ap (λ m. m y.var) e ∙ first_found y ys in cc
+rising_same (x ∷ xs) [] a b e = let k : None ≡ Some x.shape = ap (λ m. m x.var) (sym e) ∙ first_found x xs in cc
+rising_same (x ∷ xs) (y ∷ ys) a b e = at (binding_cases y x ys here) (binding_cases x y xs there) (rising_same xs ys (rising_tail x xs a) (rising_tail y ys b))
+  where
+    here : Contains (y ∷ ys) x
+    here = look_finds (y ∷ ys) x.var x.shape (ap (λ m. m x.var) (sym e) ∙ first_found x xs)
 
-pub agree_neither : (one other : List Binding) (r : Bool) → IsOnce one → IsTrue r ↔ All (IsIn other) one → r ≡ false → IsTrue r ↔ look one ≡ look other
-agree_neither one other r a h n = (λ t. let k : false ≡ true = sym n ∙ t in cc, λ e. h.1 (in_by_same one other a e))
+    there : Contains (x ∷ xs) y
+    there = look_finds (x ∷ xs) y.var y.shape (ap (λ m. m y.var) e ∙ first_found y ys)
+
+    rest : x ≡ y → look xs ≡ look ys
+    rest same = λ i v. for v (nat_eq x.var v) refl i
+      where
+        passed : (z : Binding) (zs : List Binding) (v : ℕ) → nat_eq z.var v ≡ false → look (z ∷ zs) v ≡ look zs v
+        passed z zs v f = ap (λ t. cond t (Some z.shape) (look zs v)) f
+
+        for : (v : ℕ) (t : Bool) → nat_eq x.var v ≡ t → look xs v ≡ look ys v
+        for v true f =
+            let i : x.var ≡ v = equal x.var v f in
+            let j : y.var ≡ v = ap (λ z. z.var) (sym same) ∙ i in
+            ap (look xs) (sym i) ∙ first_alone x xs a ∙ sym (ap (look ys) (sym j) ∙ first_alone y ys b)
+        for v false f = sym (passed x xs v f) ∙ ap (λ m. m v) e ∙ passed y ys v (ap (λ z. nat_eq z.var v) (sym same) ∙ f)
+
+    at : (x ≡ y) ⊎ Contains ys x → (y ≡ x) ⊎ Contains xs y → (look xs ≡ look ys → xs ≡ ys) → x ∷ xs ≡ y ∷ ys
+    at (inl same) c more = let t : xs ≡ ys = more (rest same) in cc
+    at (inr c) (inl same) more = let l : y.var < x.var = rising_first y ys b x c in let k : y.var ≡ x.var = ap (λ z. z.var) same in absurd (omega (arith, l, k))
+    at (inr c) (inr d) more = let l : y.var < x.var = rising_first y ys b x c in let k : x.var < y.var = rising_first x xs a y d in absurd (omega (arith, l, k))
+
+pub binding_exact : (a b : Binding) → Decides (binding_eq a b) (a ≡ b)
+binding_exact a b = search rules
+
+-- what is found equal is the same
+pub map_exact : (one other : List Binding) → Decides (pointwise binding_eq one other) (one ≡ other)
+map_exact = pointwise_decides {E = binding_eq} binding_exact
+
+pub same_bindings : (one other : List Binding) (r : Bool) → r ≡ pointwise binding_eq one other → IsTrue r ↔ one ≡ other
+same_bindings one other r e = (λ t. (map_exact one other).0 (sym e ∙ t), λ i. e ∙ (map_exact one other).1 i)
+
+pub same_shapes : (one other : List Binding) (r : Bool) → IsRising one → IsRising other → r ≡ pointwise binding_eq one other → IsTrue r ↔ look one ≡ look other
+same_shapes one other r a b e = (λ t. ap look ((map_exact one other).0 (sym e ∙ t)), λ i. e ∙ (map_exact one other).1 (rising_same one other a b i))

@@ -7,7 +7,7 @@ use Rattle.typegraph.proofs.Looks.{equal, equal_as}
 abbrev Known : Type 0 → Type 0
 Known A = A ⊎ (A → ⊥)
 
-number_known : (m n : ℕ) → Known (m ≡ n)
+pub number_known : (m n : ℕ) → Known (m ≡ n)
 number_known m n = go (nat_eq m n) refl
   where
     go : (t : Bool) → nat_eq m n ≡ t → Known (m ≡ n)

@@ -14,11 +14,12 @@ use Rattle.flow_graph.specs.declared.context.Context.{Context}
 use Rattle.flow_graph.specs.Flows.{FlowTables, target_of, into_of, changed_at, with_var, with_point, with_context, with_edge}
 use Rattle.flow_graph.proofs.Valid.{pushed, pushed_at, length-changed_at, fresh_row}
 use Rattle.typegraph.specs.declared.fact.Fact.{Fact}
-use Rattle.typegraph.specs.Maps.{IsOnce}
+use Rattle.typegraph.specs.Maps.{IsRising}
 use Rattle.typegraph.specs.Graphs.{GraphTables, row_of, push_fact, with_flow, with_row, with_shape, with_fact, HasFact, IsGiven, item_total}
 use Rattle.typegraph.specs.Validity.{IsTestThere, IsShapeAskThere, IsBindingThere, IsFactAt, Differ}
 use Rattle.typegraph.specs.Kept.{push_shape, CountPair, IsCapped, IsKept}
 use Rattle.typegraph.proofs.Looks.{equal, equal_as}
+use Rattle.typegraph.proofs.Agree.{rising_once}
 use Rattle.typegraph.proofs.Contexts.{has_known}
 use Rattle.typegraph.proofs.Totals.{total_push, total_changed, capped_none, capped_more}
 use Rattle.typegraph.proofs.Tables.{row_push, changed_row, changed_here, row_within, target_within, target_push, target_push_back, into_push, target_changed, into_changed}
@@ -41,6 +42,7 @@ fact_more g h point fact same vars shapes f =
       shape = omega (arith, shapes, f.shape);
       source = λ b c. let t : IsBindingThere g.flow.vars (length g.truths) b = f.source b c in record { var = omega (arith, vars, t.var); shape = omega (arith, shapes, t.shape) };
       once = f.once;
+      rising = f.rising;
     }
 
 -- shapes are given as before, where rows and the targets at them are as before
@@ -315,8 +317,8 @@ module _ (g : GraphTables) (given : List (List ℕ)) (counts next : CountPair) (
           (subst (λ u. Contains (row_of (slice_get (changed_at (push_shape fact.shape) given var) var)) u) shape
           (subst (λ row. Contains row fact.shape) (sym (changed_here (push_shape fact.shape) given var within)) (push_has fact.shape (row_of (slice_get given var)))))
 
-  pub kept_fact : fact.shape < length g.truths → All (IsBindingThere g.flow.vars (length g.truths)) fact.source → IsOnce fact.source → (HasFact g point fact.shape fact.source → ⊥) → next.contexts ≡ counts.contexts → IsCapped next.items (item_total g + 1) → IsKept (fact_graph g point fact) (changed_at (push_shape fact.shape) given var) next
-  kept_fact shape source once fresh same items =
+  pub kept_fact : fact.shape < length g.truths → All (IsBindingThere g.flow.vars (length g.truths)) fact.source → IsRising fact.source → (HasFact g point fact.shape fact.source → ⊥) → next.contexts ≡ counts.contexts → IsCapped next.items (item_total g + 1) → IsKept (fact_graph g point fact) (changed_at (push_shape fact.shape) given var) next
+  kept_fact shape source rising fresh same items =
       record {
         valid = record {
           rows = length-changed_at (push_fact fact) g.facts point ∙ k.valid.rows;
@@ -338,7 +340,7 @@ module _ (g : GraphTables) (given : List (List ℕ)) (counts next : CountPair) (
       facts p f (inl c) = fact_more g (fact_graph g point fact) p f (λ v e. e) (omega arith) (omega arith) (k.valid.facts p f c)
       facts p f (inr e) =
           subst (λ z. IsFactAt (fact_graph g point fact) p z) e.1
-          (record { var = var; target = ap (λ z. target_of (slice_get g.flow.points z)) e.0 ∙ target; shape = shape; source = λ b c. All-contains (IsBindingThere g.flow.vars (length g.truths)) fact.source b source c; once = once })
+          (record { var = var; target = ap (λ z. target_of (slice_get g.flow.points z)) e.0 ∙ target; shape = shape; source = λ b c. All-contains (IsBindingThere g.flow.vars (length g.truths)) fact.source b source c; once = rising_once fact.source rising; rising = rising })
 
       once_at : (p : ℕ) → (row_of (slice_get (changed_at (push_fact fact) g.facts point) p) ≡ row_of (slice_get g.facts p)) ⊎ ((p ≡ point) × (row_of (slice_get (changed_at (push_fact fact) g.facts point) p) ≡ push_fact fact (row_of (slice_get g.facts p)))) → AllPairs Differ (row_of (slice_get (changed_at (push_fact fact) g.facts point) p))
       once_at p (inl e) = subst (λ row. AllPairs Differ row) (sym e) (k.valid.once p)

@@ -1,7 +1,9 @@
 pub mod Looks
-pub mod Gathers
-pub mod Rows
 pub mod Agree
+pub mod Joins
+pub mod Exact
+pub mod Rows
+pub mod Placing
 pub mod Contexts
 pub mod Totals
 pub mod Tables

@@ -1,8 +1,6 @@
 -- What a look-up finds in a list of bindings.
 use Rattle.std.proofs.Common.{◌≡◌, ◌≢◌, ℕ, suc, zero, Bool, true, false, cond, Option, Some, None, List, [], ◌∷◌, ◌++◌, get_or, refl, sym, ap, subst, ◌∙◌, arith, nat_eq, ◌⊎◌, inl, inr}
 use Rattle.std.specs.List.{Contains}
-use Rattle.std.proofs.lemmas.List.Quantifiers.{all_pairs_push}
-use Rattle.std.proofs.lemmas.List.Elements.{Contains-get_or}
 use Rattle.std.proofs.lemmas.Bool.Decides.{nat_tests}
 use Rattle.typegraph.specs.declared.goals.Binding.{Binding}
 use Rattle.typegraph.specs.Maps.{look, IsOnce}
@@ -64,42 +62,3 @@ look_once (x ∷ xs) v s once c = go (nat_eq x.var v) refl (binding_cases x (rec
     go true e (inr d) more = absurd (head d (equal x.var v e))
     go false e (inl i) more = let k : nat_eq x.var v ≡ true = equal_as x.var v (ap (λ b. b.var) (sym i)) in cc
     go false e (inr d) more = more d
-
--- a look-up with one more binding at the end
-unfoldable pub with_last : Bool → Option ℕ → Binding → Option ℕ
-with_last t None b = cond t (Some b.shape) None
-with_last t (Some s) b = Some s
-
-pub look_push : (xs : List Binding) (b : Binding) (v : ℕ) → look (xs ++ b ∷ []) v ≡ with_last (nat_eq b.var v) (look xs v) b
-unfolding with_last
-look_push [] b v = refl
-look_push (x ∷ xs) b v = go (nat_eq x.var v) (look_push xs b v)
-  where
-    go : (t : Bool) → look (xs ++ b ∷ []) v ≡ with_last (nat_eq b.var v) (look xs v) b → cond t (Some x.shape) (look (xs ++ b ∷ []) v) ≡ with_last (nat_eq b.var v) (cond t (Some x.shape) (look xs v)) b
-    go true e = refl
-    go false e = e
-
-pub look_stays : (xs : List Binding) (b : Binding) (v s : ℕ) → look xs v ≡ Some s → look (xs ++ b ∷ []) v ≡ Some s
-unfolding with_last
-look_stays xs b v s h = look_push xs b v ∙ ap (λ o. with_last (nat_eq b.var v) o b) h
-
-pub look_last : (xs : List Binding) (b : Binding) → look xs b.var ≡ None → look (xs ++ b ∷ []) b.var ≡ Some b.shape
-unfolding with_last
-look_last xs b h = look_push xs b b.var ∙ ap (λ o. with_last (nat_eq b.var b.var) o b) h ∙ ap (λ t. cond t (Some b.shape) None) (equal_itself b.var)
-
-pub look_from_push : (xs : List Binding) (b : Binding) (v s : ℕ) → look (xs ++ b ∷ []) v ≡ Some s → (look xs v ≡ Some s) ⊎ (record { var = v; shape = s } ≡ b)
-unfolding with_last
-look_from_push xs b v s h = go (look xs v) refl (nat_eq b.var v) refl (sym (look_push xs b v) ∙ h)
-  where
-    go : (o : Option ℕ) → look xs v ≡ o → (t : Bool) → nat_eq b.var v ≡ t → with_last (nat_eq b.var v) (look xs v) b ≡ Some s → (look xs v ≡ Some s) ⊎ (record { var = v; shape = s } ≡ b)
-    go (Some u) i t j h = inl (i ∙ sym (ap (λ o. with_last (nat_eq b.var v) o b) i) ∙ h)
-    go None i true j h =
-        let k : Some b.shape ≡ Some s = sym (ap (λ o. with_last (nat_eq b.var v) o b) i ∙ ap (λ t. with_last t None b) j) ∙ h in
-        let ss : b.shape ≡ s = cc in
-        inr (λ l. record { var = sym (equal b.var v j) l; shape = sym ss l })
-    go None i false j h = let k : None ≡ Some s = sym (ap (λ o. with_last (nat_eq b.var v) o b) i ∙ ap (λ t. with_last t None b) j) ∙ h in cc
-
-pub once_push : (xs : List Binding) (b : Binding) → IsOnce xs → look xs b.var ≡ None → IsOnce (xs ++ b ∷ [])
-once_push xs b once h =
-    all_pairs_push (λ x y. x.var ≢ y.var) xs b once
-    (λ k d l e. look_some xs (get_or xs k d) (Contains-get_or xs k d l) (ap (look xs) e ∙ h))

@@ -1,8 +1,9 @@
 -- Rows that are changed at a place, and changed back.
-use Rattle.std.proofs.Common.{◌≡◌, ℕ, suc, zero, ◌<◌, List, [], ◌∷◌, length, get_or, slice_set, refl, sym, ap, ◌∙◌, arith}
+use Rattle.std.proofs.Common.{◌≡◌, ℕ, suc, zero, ◌<◌, List, [], ◌∷◌, length, get_or, slice_set, slice_get, refl, sym, ap, ◌∙◌, arith}
 use Rattle.std.proofs.lemmas.Option.{slice_get_read}
 use Rattle.flow_graph.specs.Flows.{changed_at}
 use Rattle.flow_graph.proofs.Valid.{changed_by_set}
+use Rattle.typegraph.specs.Graphs.{row_of}
 
 module _ {X : Type 0} where
   pub row_changed : (f : X → X) (xs ys : List X) (place at : ℕ) (x y : X) → xs ≡ ys → place ≡ at → at < length ys → x ≡ get_or xs place x → y ≡ f x → slice_set xs place y ≡ changed_at f ys at
@@ -34,3 +35,8 @@ module _ {X : Type 0} where
 
   pub row_stays : (xs ys : List X) (place : ℕ) (x y : X) → xs ≡ ys → x ≡ get_or xs place x → y ≡ x → slice_set xs place y ≡ ys
   row_stays xs ys place x y e h k = ap (slice_set xs place) (k ∙ h) ∙ set_itself xs place x ∙ e
+
+pub row_read : {X : Type 0} (rows given : List (List X)) (place at : ℕ) (row : List X) → rows ≡ given → place ≡ at → at < length given → row ≡ get_or rows place row → row_of (slice_get given at) ≡ row
+row_read rows given place at row e i l h =
+    ap (λ rs. row_of (slice_get rs at)) (sym e) ∙ ap (λ n. row_of (slice_get rows n)) (sym i)
+    ∙ ap row_of (slice_get_read rows _ place row refl (omega (arith, l, i, ap length e)) h)

@@ -1,5 +1,5 @@
 -- Rows and points of lists that grow or are changed at a place.
-use Rattle.std.proofs.Common.{◌≡◌, ℕ, suc, zero, ◌<◌, Option, Some, None, List, [], ◌∷◌, ◌++◌, length, slice_get, ◌⊎◌, inl, inr, refl, ap, arith}
+use Rattle.std.proofs.Common.{◌≡◌, ℕ, suc, zero, ◌<◌, Option, Some, None, IsSome, List, [], ◌∷◌, ◌++◌, length, slice_get, ◌⊎◌, inl, inr, refl, ap, arith}
 use Rattle.std.specs.List.{Contains}
 use Rattle.flow_graph.specs.declared.edge.Edge.{Edge}
 use Rattle.flow_graph.specs.Flows.{PointRow, FlowTables, target_of, into_of, changed_at}
@@ -41,6 +41,11 @@ pub target_within : (points : List PointRow) (k v : ℕ) → target_of (slice_ge
 target_within [] k v h = cc
 target_within (p ∷ points) zero v h = omega arith
 target_within (p ∷ points) (suc k) v h = let l : k < length points = target_within points k v h in omega (arith, l)
+
+pub some_within : (points : List PointRow) (k : ℕ) → IsSome (target_of (slice_get points k)) → k < length points
+some_within [] k h = cc
+some_within (p ∷ points) zero h = omega arith
+some_within (p ∷ points) (suc k) h = let l : k < length points = some_within points k h in omega (arith, l)
 
 pub target_push : (points : List PointRow) (p : PointRow) (k v : ℕ) → target_of (slice_get points k) ≡ Some v → target_of (slice_get (points ++ p ∷ []) k) ≡ Some v
 target_push [] p k v h = cc

@@ -7,6 +7,12 @@ use Rattle.typegraph.specs.declared.goals.Binding.{Binding}
 abbrev pub IsConsistent : List Binding → Type 0
 IsConsistent list = (v s t : ℕ) → Contains list (record { var = v; shape = s }) → Contains list (record { var = v; shape = t }) → s ≡ t
 
+-- one of the bindings gives its variable another shape
+pub record ClashesWith (before : List Binding) (b : Binding) : Type 0 where
+  pub shape : ℕ
+  pub stands : Contains before (record { var = b.var; shape = shape })
+  pub differ : shape ≢ b.shape
+
 -- it stands after bindings that are consistent, of which one gives its variable another shape
 pub record IsFirstClash (list : List Binding) (var : ℕ) : Type 0 where
   pub before : List Binding

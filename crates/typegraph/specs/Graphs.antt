@@ -1,11 +1,11 @@
 -- What a graph holds, and what it is after something is added.
-use Rattle.std.specs.Prelude.{◌≡◌, ℕ, ◌+◌, Option, Some, None, List, [], ◌∷◌, ◌++◌, length, slice_get}
-use Rattle.std.specs.List.{Contains}
+use Rattle.std.specs.Prelude.{◌≡◌, ℕ, ◌+◌, Option, Some, None, List, [], ◌∷◌, ◌++◌, length, slice_get, nat_eq, map}
+use Rattle.std.specs.List.{Contains, filter}
 use Rattle.flow_graph.specs.declared.edge.Truth.{Truth}
 use Rattle.flow_graph.specs.Flows.{FlowTables, target_of, changed_at}
 use Rattle.typegraph.specs.declared.fact.Fact.{Fact}
 use Rattle.typegraph.specs.declared.goals.Binding.{Binding}
-use Rattle.typegraph.specs.Maps.{look, gathered}
+use Rattle.typegraph.specs.Maps.{look, IsRising, IsJoined}
 
 -- the flow, the truth of each shape, and the facts of each point in the order of adding
 pub record GraphTables : Type 0 where
@@ -45,6 +45,13 @@ pub record IsAmong (facts : List Fact) (shape : ℕ) (source : List Binding) : T
 abbrev pub HasFact : GraphTables → ℕ → ℕ → List Binding → Type 0
 HasFact g point shape source = IsAmong (row_of (slice_get g.facts point)) shape source
 
+abbrev pub facts_of : ℕ → List Fact → List Fact
+facts_of shape facts = filter (λ f. nat_eq f.shape shape) facts
+
+-- at these places, one after the other, stand the facts of the shape
+abbrev pub ArePlacesOf : List Fact → ℕ → List ℕ → Type 0
+ArePlacesOf facts shape places = map (slice_get facts) places ≡ map Some (facts_of shape facts)
+
 -- some fact gives the variable the shape
 pub record IsGiven (g : GraphTables) (var shape : ℕ) : Type 0 where
   pub point : ℕ
@@ -64,5 +71,6 @@ item_total g = length g.flow.contexts + total (λ p. length p.into) g.flow.point
 -- one fact more, whose source set is the map of the bindings
 pub record IsWithFact (old : GraphTables) (point shape : ℕ) (source : List Binding) (new : GraphTables) : Type 0 where
   pub map : List Binding
-  pub gathered : gathered source [] ≡ Some map
+  pub joined : IsJoined [] source (Some map)
+  pub rising : IsRising map
   pub is : new ≡ with_fact point (record { shape = shape; source = map }) old

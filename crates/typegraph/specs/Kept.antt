@@ -1,5 +1,5 @@
 -- What a graph keeps beside its tables, to answer at once.
-use Rattle.std.specs.Prelude.{◌≡◌, ◌≢◌, ℕ, ◌-◌, ◌^◌, ◌<◌, ◌≤◌, List, [], ◌∷◌, ◌++◌, length, slice_get, nat_eq, if◌then◌else◌}
+use Rattle.std.specs.Prelude.{◌≡◌, ◌≢◌, ℕ, ◌-◌, ◌^◌, ◌<◌, ◌≤◌, Some, List, [], ◌∷◌, ◌++◌, length, slice_get, nat_eq, if◌then◌else◌}
 use Rattle.std.specs.List.{Contains, AllPairs, list_any}
 use Rattle.typegraph.specs.declared.fact.Fact.{Fact}
 use Rattle.typegraph.specs.Graphs.{GraphTables, row_of, IsGiven, item_total}
@@ -9,6 +9,25 @@ use Rattle.typegraph.specs.Validity.{IsValid}
 pub record FactTables : Type 0 where
   pub rows : List (List Fact)
   pub given : List (List ℕ)
+
+-- shapes, and a list of places for each
+pub record PlaceTables : Type 0 where
+  pub shapes : List ℕ
+  pub lists : List (List ℕ)
+
+abbrev pub list_in : List ℕ → List (List ℕ) → ℕ → List ℕ
+list_in [] lists s = []
+list_in (shape ∷ shapes) [] s = []
+list_in (shape ∷ shapes) (list ∷ lists) s = if nat_eq s shape then list else list_in shapes lists s
+
+-- the first place of a list at which the number stands
+pub record IsFirstAt (list : List ℕ) (number place : ℕ) : Type 0 where
+  pub at : slice_get list place ≡ Some number
+  pub before : (k : ℕ) → k < place → slice_get list k ≡ Some number → ⊥
+
+-- the places of a shape
+abbrev pub places_in : PlaceTables → ℕ → List ℕ
+places_in p s = list_in p.shapes p.lists s
 
 -- a row with a shape, which stands once
 abbrev pub push_shape : ℕ → List ℕ → List ℕ

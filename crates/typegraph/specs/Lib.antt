@@ -1,4 +1,5 @@
 pub mod Maps
+pub mod Keys
 pub mod Clashes
 pub mod Graphs
 pub mod Validity

@@ -8,7 +8,7 @@ use Rattle.flow_graph.specs.declared.edge.Test.TheVariants.{MayBeTrue, MayBeFals
 use Rattle.flow_graph.specs.Flows.{target_of, into_of}
 use Rattle.typegraph.specs.declared.fact.Fact.{Fact}
 use Rattle.typegraph.specs.declared.goals.Binding.{Binding}
-use Rattle.typegraph.specs.Maps.{look, IsOnce}
+use Rattle.typegraph.specs.Maps.{look, IsOnce, IsRising}
 use Rattle.typegraph.specs.Graphs.{GraphTables, row_of}
 
 abbrev pub IsTestThere : Test → ℕ → Type 0
@@ -31,6 +31,7 @@ pub record IsFactAt (g : GraphTables) (point : ℕ) (fact : Fact) : Type 0 where
   pub shape : fact.shape < length g.truths
   pub source : (b : Binding) → Contains fact.source b → IsBindingThere g.flow.vars (length g.truths) b
   pub once : IsOnce fact.source
+  pub rising : IsRising fact.source
 
 -- two facts differ, in their shapes or in their source sets as maps
 abbrev pub Differ : Fact → Fact → Type 0

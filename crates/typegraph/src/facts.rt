@@ -1,13 +1,15 @@
 //! The facts of each point, and the shapes that they give.
-ghost use Rattle.std.specs.Prelude.{◌≡◌, ℕ, List, ◌<◌, ◌++◌, ◌∷◌, [], length, slice_get, OnOk, OnErr};
+ghost use Rattle.std.specs.Prelude.{◌≡◌, ◌↔◌, ℕ, List, ◌<◌, ◌++◌, ◌∷◌, [], length, slice_get, IsTrue, OnOk, OnErr};
+ghost use Rattle.std.specs.List.{Contains};
 ghost use Rattle.flow_graph.specs.Flows.{changed_at};
-ghost use Rattle.typegraph.specs.Graphs.{row_of, push_fact};
+ghost use Rattle.typegraph.specs.Graphs.{row_of, push_fact, ArePlacesOf};
 ghost use Rattle.typegraph.specs.Kept.{push_shape};
 ghost use Rattle.typegraph.specs.declared.fact.Fact.{Fact as FactValue};
 
 use crate::fact::Fact;
 use crate::given::Given;
-use place_ids::{Id, PointId, Sequence, ShapeId, VarId};
+use crate::row::FactRow;
+use place_ids::{Id, PointId, ShapeId, VarId};
 use std::alloc::{AllocError, Global};
 use std::marker::Model;
 
@@ -15,7 +17,7 @@ use std::marker::Model;
 #[derive(Debug, Drop)]
 pub struct Facts {
     alloc: Global,
-    rows: Vec<Sequence<Fact>>,
+    rows: Vec<FactRow>,
     given: Vec<Given>,
 }
 
@@ -59,6 +61,25 @@ impl Facts {
         }
     }
 
+    /// Whether a point has the fact.
+    pub fn has(&self, point: PointId, fact: &Fact) -> bool
+        ensures { IsTrue result ↔ Contains (row_of (slice_get self.now.rows point)) fact.now }
+    {
+        match self.rows.get(point.number() as usize) {
+            Some(row) => row.has(fact),
+            None => false,
+        }
+    }
+
+    pub fn places_of(&self, point: PointId, shape: ShapeId) -> &[usize]
+        ensures { ArePlacesOf (row_of (slice_get self.now.rows point)) shape result.now }
+    {
+        match self.rows.get(point.number() as usize) {
+            Some(row) => row.places_of(shape),
+            None => &[],
+        }
+    }
+
     pub fn shapes_of(&self, var: VarId) -> &[ShapeId]
         ensures { result.now ≡ row_of (slice_get self.now.given var) }
     {
@@ -72,7 +93,7 @@ impl Facts {
         ensures added { OnOk result (self.new ≡ record self.old { rows = self.old.rows ++ [] ∷ [] }) }
         ensures refused { OnErr result (self.new ≡ self.old) }
     {
-        let row = Sequence::new(self.alloc);
+        let row = FactRow::new(self.alloc);
         match self.rows.push(row) {
             Ok(()) => Ok(()),
             Err(_) => Err(AllocError),
@@ -108,6 +129,7 @@ impl Facts {
     pub fn push(&mut self, point: PointId, var: VarId, fact: Fact) -> Result<(), AllocError>
         requires point { point < length self.old.rows }
         requires var { var < length self.old.given }
+        requires fresh { Contains (row_of (slice_get self.old.rows point)) fact → ⊥ }
         ensures pushed { OnOk result (self.new ≡ record { rows = changed_at (push_fact fact) self.old.rows point; given = changed_at (push_shape fact.shape) self.old.given var }) }
         ensures refused { OnErr result (self.new ≡ self.old) }
     {

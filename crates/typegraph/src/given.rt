@@ -1,8 +1,8 @@
 //! The shapes of one variable.
-ghost use Rattle.std.specs.Prelude.{◌≡◌, ℕ, List, ◌∷◌, ◌++◌, [], true, false, Ok, nat_eq, OnOk, OnErr};
-ghost use Rattle.std.specs.List.{list_any};
+ghost use Rattle.std.specs.Prelude.{◌≡◌, ℕ, List, ◌∷◌, ◌++◌, [], true, false, Ok, OnOk, OnErr};
 ghost use Rattle.typegraph.specs.Kept.{push_shape};
 
+use indexmap::IndexSet;
 use place_ids::ShapeId;
 use std::alloc::{AllocError, Global};
 use std::marker::Model;
@@ -10,7 +10,7 @@ use std::marker::Model;
 /// Shapes in the order in which they came, each once.
 #[derive(Debug, Drop)]
 pub struct Given {
-    shapes: Vec<ShapeId>,
+    shapes: IndexSet<ShapeId>,
 }
 
 impl Model for Given {
@@ -18,7 +18,7 @@ impl Model for Given {
 
     ghost Value = { List ℕ };
 
-    ghost view = { λ g. g.shapes.items };
+    ghost view = { λ g. g.shapes.keys };
 }
 
 impl Given {
@@ -26,7 +26,7 @@ impl Given {
         ensures { result ≡ [] }
     {
         Given {
-            shapes: Vec::new(alloc),
+            shapes: IndexSet::new(alloc),
         }
     }
 
@@ -43,11 +43,10 @@ impl Given {
         ensures known { result ≡ Ok false → self.new ≡ self.old }
         ensures refused { OnErr result (self.new ≡ self.old) }
     {
-        if has_shape(self.shapes.as_slice(), shape) {
-            return Ok(false);
+        match self.shapes.insert(shape) {
+            Ok(fresh) => Ok(fresh),
+            Err(_) => Err(AllocError),
         }
-        self.shapes.push(shape)?;
-        Ok(true)
     }
 
     /// Takes the last shape off.
@@ -56,15 +55,4 @@ impl Given {
     {
         let _ = self.shapes.pop();
     }
-}
-
-fn has_shape(shapes: &[ShapeId], shape: ShapeId) -> bool
-    ensures { result ≡ list_any (nat_eq shape) shapes.now }
-{
-    for other in shapes {
-        if shape == *other {
-            return true;
-        }
-    }
-    false
 }

@@ -1,15 +1,16 @@
 //! A typegraph: facts with their source sets over a flow.
-ghost use Rattle.std.specs.Prelude.{◌≡◌, ◌↔◌, ℕ, ◌-◌, ◌^◌, ◌<◌, ◌≤◌, [], true, false, Ok, Err, Some, length, slice_get, IsSome, IsErrOf, IsOk, IfOk, OnOk, OnErr};
+ghost use Rattle.std.specs.Prelude.{◌≡◌, ◌↔◌, ℕ, ◌-◌, ◌^◌, ◌<◌, ◌≤◌, [], true, false, Ok, Err, Some, length, slice_get, IsTrue, IsSome, IsErrOf, IsOk, IfOk, OnOk, OnErr};
 ghost use Rattle.std.specs.List.{All, AllPairs, Contains};
 ghost use Rattle.flow_graph.specs.Flows.{target_of, with_var, with_point, with_context, with_edge, HasEdge, HasContext};
 ghost use Rattle.flow_graph.specs.Validity.{IsThere, IsAskThere};
 ghost use Rattle.typegraph.specs.Maps.{IsOnce};
 ghost use Rattle.typegraph.specs.Clashes.{IsConsistent, IsFirstClash};
-ghost use Rattle.typegraph.specs.Graphs.{row_of, with_flow, with_row, with_shape, with_fact, HasFact, IsWithFact, IsGiven, item_total};
+ghost use Rattle.typegraph.specs.Graphs.{row_of, ArePlacesOf, with_flow, with_row, with_shape, with_fact, HasFact, IsWithFact, IsGiven, item_total};
 ghost use Rattle.typegraph.specs.Validity.{IsShapeAskThere, IsBindingThere, IsValid};
 
+use crate::clash::first_clash;
 use crate::counts::Counts;
-use crate::fact::{Fact, FactFault, has_fact};
+use crate::fact::{Fact, FactFault};
 use crate::facts::Facts;
 use crate::goals::{Binding, GoalMap};
 use flow_graph::{Ask, Edge, Flow, Test, Truth};
@@ -175,12 +176,12 @@ impl Graph {
         ensures two_shapes { (var : ℕ) → result ≡ Err (FactFault.TwoShapes var) → IsFirstClash source.now var }
         ensures fresh { result ≡ Ok true → (HasFact self.old point shape source.now → ⊥) × IsWithFact self.old point shape source.now self.new }
         ensures known { result ≡ Ok false → HasFact self.old point shape source.now × (self.new ≡ self.old) }
+        ensures has { OnOk result (HasFact self.new point shape source.now) }
         ensures refused { OnErr result (self.new ≡ self.old) }
     {
-        let mut map = GoalMap::new(self.alloc);
-        match map.add_all(source) {
-            Ok(None) => self.add_map(point, Fact { shape, source: map }),
-            Ok(Some(var)) => Err(FactFault::TwoShapes(var)),
+        match GoalMap::from_bindings(self.alloc, source) {
+            Ok(Some(map)) => self.add_map(point, Fact { shape, source: map }),
+            Ok(None) => Err(FactFault::TwoShapes(first_clash(source))),
             Err(_) => Err(FactFault::Memory),
         }
     }
@@ -191,6 +192,13 @@ impl Graph {
         ensures valid { IsValid self.now }
     {
         self.facts.at(point)
+    }
+
+    /// Where the facts of one shape stand among those of a point, in their order. It looks at no other fact.
+    pub fn places_of(&self, point: PointId, shape: ShapeId) -> &[usize]
+        ensures { ArePlacesOf (row_of (slice_get self.now.facts point)) shape result.now }
+    {
+        self.facts.places_of(point, shape)
     }
 
     /// The shapes that some fact gives a variable, each once. An unknown variable has none.
@@ -226,6 +234,14 @@ impl Graph {
         }
     }
 
+    // Whether one of the point's facts has this one's shape and source set.
+    fn has_fact(&self, point: PointId, fact: &Fact) -> bool
+        ensures { IsTrue result ↔ HasFact self.now point fact.now.shape fact.now.source }
+    {
+        let _ = fact.source.items();
+        self.facts.has(point, fact)
+    }
+
     // Adds a fact whose source set is a map.
     fn add_map(&mut self, point: PointId, fact: Fact) -> Result<bool, FactFault>
         requires point { IsSome (target_of (slice_get self.old.flow.points point)) }
@@ -236,7 +252,7 @@ impl Graph {
         ensures no_clash { (var : ℕ) → result ≡ Err (FactFault.TwoShapes var) → ⊥ }
         ensures refused { OnErr result (self.new ≡ self.old) }
     {
-        if has_fact(self.facts_at(point), &fact) {
+        if self.has_fact(point, &fact) {
             return Ok(false);
         }
         match self.push_fact(point, fact) {

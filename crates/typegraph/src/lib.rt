@@ -1,12 +1,15 @@
 //! Facts with their source sets over a flow.
 #![tactic(auto)]
 
+mod clash;
 mod counts;
 mod fact;
 mod facts;
 mod given;
 mod goals;
 mod graph;
+mod places;
+mod row;
 #[cfg(test)]
 mod tests;
 

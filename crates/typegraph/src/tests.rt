@@ -19,7 +19,7 @@ fn pair(var: u32, shape: u32) -> Binding
 fn a_map_holds_each_variable_once(rt: HostRuntime) -> Result<(), Fail> {
     let list = [pair(4, 1), pair(2, 0), pair(4, 1)];
     let map = GoalMap::from_bindings(rt.alloc(), &list)?.expect(&rt, "no two shapes");
-    assert_eq!(rt; map.items(), [pair(4, 1), pair(2, 0)].as_slice());
+    assert_eq!(rt; map.items(), [pair(2, 0), pair(4, 1)].as_slice());
     let shapes = [map.get(VarId::new(2)), map.get(VarId::new(1))];
     assert_eq!(rt; shapes, [Some(ShapeId::new(0)), None]);
     Ok(())
@@ -32,7 +32,8 @@ fn two_shapes_make_no_map(rt: HostRuntime) -> Result<(), Fail> {
     let more = map
         .merge(&[pair(1, 1), pair(2, 0)])?
         .expect(&rt, "no two shapes");
-    assert_eq!(rt; more.items(), [pair(2, 0), pair(1, 1)].as_slice());
+    assert_eq!(rt; more.items(), [pair(1, 1), pair(2, 0)].as_slice());
+    assert!(rt; more.copy()? == more);
     assert!(rt; map.merge(&[pair(2, 1)])?.is_none());
     assert!(rt; !map.same(&more));
     Ok(())
@@ -78,6 +79,7 @@ fn facts_stand_once(rt: HostRuntime) -> Result<(), Fail> {
     assert_eq!(rt; graph.shapes_of(var), [shape].as_slice());
     assert_eq!(rt; graph.facts_at(point).len(), 1);
     assert!(rt; graph.facts_at(PointId::new(1)).is_empty());
+    assert_eq!(rt; graph.places_of(point, shape), [0].as_slice());
     Ok(())
 }
 

@@ -74,8 +74,12 @@ const TESTS: [Row; 4] = [
             ways: &[Asking(0, 1, Wish::True(0)), Asking(0, 2, Wish::Is(0, 0))],
             facts: &[],
         },
-        // No fact gives a shape that could pass.
-        questions: &[Question(1, &[], No, 1), Question(2, &[], No, 1)],
+        // No fact gives a shape that could pass, also where that shape is wanted.
+        questions: &[
+            Question(1, &[], No, 1),
+            Question(1, &[(0, 0)], No, 1),
+            Question(2, &[], No, 1),
+        ],
     },
 ];
 

@@ -3,4 +3,4 @@ use Rattle.goal_solver.proofs.Tables.{asked_none}
 use Rattle.goal_solver.proofs.back.no_pair.Goals as goal
 
 pub returns : goal.returns
-returns c = asked_none c.args.graph.now _ (c.in_ok-push.ensures.items ∙ ap (λ ys. ys ++ None ∷ []) c.new-pairs.ensures.items)
+returns c = asked_none c.args.graph.now _ (c.in_ok-push.ensures.ok ∙ ap (λ ys. ys ++ None ∷ []) c.new-pairs.ensures.items)

@@ -1,8 +1,12 @@
-use Rattle.std.proofs.Common.{ap, Ok, ◌∙◌}
+use Rattle.std.proofs.Common.{ap, Ok, ◌∙◌, sym, subst}
+use Rattle.std.specs.List.{Contains}
 use Rattle.typegraph.specs.Graphs.{push_fact}
 use Rattle.typegraph.specs.Kept.{push_shape}
-use Rattle.typegraph.proofs.Rows.{row_changed, row_undone, row_stays}
+use Rattle.typegraph.proofs.Rows.{row_changed, row_undone, row_stays, row_read}
 use Rattle.typegraph.proofs.facts.Facts.push.Goals as goal
+
+pub push-requires : goal.push-requires
+push-requires c = λ d. c.requires.fresh (subst (λ row. Contains row c.args.fact) (sym (row_read _ _ _ c.args.point c.index_mut-2.result.now (ap (λ t. t.rows) c.self.view_is) c.number-2.ensures c.requires.point c.index_mut-2.ensures.value)) d)
 
 pub returns-in-Ok-clause-pushed : goal.returns-in-Ok-clause-pushed
 returns-in-Ok-clause-pushed c =

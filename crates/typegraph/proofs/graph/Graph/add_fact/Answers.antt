@@ -1,32 +1,41 @@
-use Rattle.std.proofs.Common.{◌≡◌, ◌∙◌, ap, sym, Some, [], length}
-use Rattle.typegraph.specs.Maps.{gathered, clash_in}
+use Rattle.std.proofs.Common.{◌≡◌, ◌<◌, ◌∙◌, arith, ap, sym, subst, [], length, slice_get}
+use Rattle.std.specs.Option.{IfSome}
+use Rattle.typegraph.specs.Maps.{IsJoined, IsRising}
 use Rattle.typegraph.specs.Graphs.{HasFact}
 use Rattle.typegraph.specs.Validity.{IsBindingThere}
-use Rattle.typegraph.proofs.Clashing.{consistent, first_clash, gathered_there, gathered_look}
+use Rattle.typegraph.proofs.Clashing.{consistent, joined_look, joined_there}
+use Rattle.typegraph.proofs.Exact.{has_after}
+use Rattle.typegraph.proofs.Joins.{two_shapes}
 use Rattle.typegraph.proofs.Results.{any_ok}
+use Rattle.typegraph.proofs.Tables.{some_within}
 use Rattle.typegraph.proofs.graph.Graph.add_fact.Goals as goal
 
 pub add_map-requires-clause-source : goal.add_map-requires-clause-source
-add_map-requires-clause-source c = gathered_there (IsBindingThere c.args.self.now.flow.vars (length c.args.self.now.truths)) c.args.source.now c.add_all.new.self (rw (← c.new-map.ensures) (rw c.in-Ok-None.field-0-is at c.in-Ok-None.ensures.added)) c.requires.source
+add_map-requires-clause-source c = joined_there (IsBindingThere c.args.self.now.flow.vars (length c.args.self.now.truths)) c.args.source.now c.in-Ok-Some.map (subst (λ o. IfSome o IsRising) c.in-Ok-Some.field-0-is c.in-Ok-Some.ensures.rising) (subst (IsJoined [] c.args.source.now) c.in-Ok-Some.field-0-is c.in-Ok-Some.ensures.joined) c.requires.source
 
-pub returns-in-Ok-None-clause-consistent : goal.returns-in-Ok-None-clause-consistent
-returns-in-Ok-None-clause-consistent c = any_ok _ c.add_map.result (consistent c.args.source.now c.add_all.new.self (rw (← c.new-map.ensures) (rw c.in-Ok-None.field-0-is at c.in-Ok-None.ensures.added)))
+pub first_clash-requires : goal.first_clash-requires
+first_clash-requires c = two_shapes [] c.args.source.now (subst (IsJoined [] c.args.source.now) c.in-Ok-None.field-0-is c.in-Ok-None.ensures.joined)
 
-pub returns-in-Ok-None-clause-fresh : goal.returns-in-Ok-None-clause-fresh
-returns-in-Ok-None-clause-fresh c = λ e.
-    let is : gathered c.args.source.now [] ≡ Some c.add_all.new.self = rw (← c.new-map.ensures) (rw c.in-Ok-None.field-0-is at c.in-Ok-None.ensures.added) in (
-      λ h. (c.add_map.ensures.fresh e).0 (record { fact = h.fact; is = h.is; shape_is = h.shape_is; source_is = h.source_is ∙ sym (gathered_look c.args.source.now c.add_all.new.self is) }),
-      record { map = c.add_all.new.self; gathered = is; is = (c.add_map.ensures.fresh e).1 },
+pub returns-in-Ok-Some-clause-consistent : goal.returns-in-Ok-Some-clause-consistent
+returns-in-Ok-Some-clause-consistent c = any_ok _ c.add_map.result (consistent c.args.source.now c.in-Ok-Some.map (subst (IsJoined [] c.args.source.now) c.in-Ok-Some.field-0-is c.in-Ok-Some.ensures.joined))
+
+pub returns-in-Ok-Some-clause-fresh : goal.returns-in-Ok-Some-clause-fresh
+returns-in-Ok-Some-clause-fresh c = λ e.
+    let joined = subst (IsJoined [] c.args.source.now) c.in-Ok-Some.field-0-is c.in-Ok-Some.ensures.joined in (
+      λ h. (c.add_map.ensures.fresh e).0 (record { fact = h.fact; is = h.is; shape_is = h.shape_is; source_is = h.source_is ∙ sym (joined_look c.args.source.now c.in-Ok-Some.map joined) }),
+      record { map = c.in-Ok-Some.map; joined = joined; rising = subst (λ o. IfSome o IsRising) c.in-Ok-Some.field-0-is c.in-Ok-Some.ensures.rising; is = (c.add_map.ensures.fresh e).1 },
     )
 
-pub returns-in-Ok-None-clause-known : goal.returns-in-Ok-None-clause-known
-returns-in-Ok-None-clause-known c = λ e.
-    let is : gathered c.args.source.now [] ≡ Some c.add_all.new.self = rw (← c.new-map.ensures) (rw c.in-Ok-None.field-0-is at c.in-Ok-None.ensures.added) in
-    let h : HasFact c.args.self.now c.args.point c.args.shape c.add_all.new.self = (c.add_map.ensures.known e).0 in
-    (record { fact = h.fact; is = h.is; shape_is = h.shape_is; source_is = h.source_is ∙ gathered_look c.args.source.now c.add_all.new.self is }, (c.add_map.ensures.known e).1)
+pub returns-in-Ok-Some-clause-known : goal.returns-in-Ok-Some-clause-known
+returns-in-Ok-Some-clause-known c = λ e.
+    let h : HasFact c.args.self.now c.args.point c.args.shape c.in-Ok-Some.map = (c.add_map.ensures.known e).0 in
+    let same = joined_look c.args.source.now c.in-Ok-Some.map (subst (IsJoined [] c.args.source.now) c.in-Ok-Some.field-0-is c.in-Ok-Some.ensures.joined) in
+    (record { fact = h.fact; is = h.is; shape_is = h.shape_is; source_is = h.source_is ∙ same }, (c.add_map.ensures.known e).1)
 
-pub returns-in-Ok-Some-clause-two_shapes : goal.returns-in-Ok-Some-clause-two_shapes
-returns-in-Ok-Some-clause-two_shapes c = λ v e.
-    let same : c.in-Ok-Some.var ≡ v = cc in
-    let h : clash_in c.args.source.now [] ≡ Some c.in-Ok-Some.var = rw (← c.new-map.ensures) (sym c.in-Ok-Some.ensures.clash ∙ c.in-Ok-Some.field-0-is) in
-    first_clash c.args.source.now v (h ∙ ap Some same)
+pub returns-in-Ok-Some-clause-has : goal.returns-in-Ok-Some-clause-has
+returns-in-Ok-Some-clause-has c =
+    let l : c.args.point < length c.args.self.now.flow.points = some_within c.args.self.now.flow.points c.args.point c.requires.point in
+    let rows : length c.args.self.now.facts ≡ length c.args.self.now.flow.points = subst (λ t. length t.facts ≡ length t.flow.points) c.self.view_is c.self.invariant.valid.rows in
+    has_after c.args.self.now _ c.args.point c.args.shape c.args.source.now c.in-Ok-Some.map c.add_map.result (omega (arith, l, rows))
+    (joined_look c.args.source.now c.in-Ok-Some.map (subst (IsJoined [] c.args.source.now) c.in-Ok-Some.field-0-is c.in-Ok-Some.ensures.joined))
+    c.add_map.ensures.fresh c.add_map.ensures.known

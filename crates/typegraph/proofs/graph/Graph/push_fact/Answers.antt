@@ -21,7 +21,7 @@ invariant_of-self-2 c =
     (omega (arith, l, c.self.invariant.given.size))
     (omega (arith, ap (λ t. length t.truths) c.self.view_is, c.requires.shape))
     (subst (λ t. All (IsBindingThere t.flow.vars (length t.truths)) c.args.fact.source) (sym c.self.view_is) c.requires.source)
-    c.items.ensures.once
+    c.items.ensures.rising
     (subst (λ t. HasFact t c.args.point c.args.fact.shape c.args.fact.source → ⊥) (sym c.self.view_is) c.requires.fresh)
     c.add_item.ensures.contexts
     (capped_more c.self.inside.counts.items _ _ c.self.invariant.items c.add_item.ensures.more c.add_item.ensures.full))
