@@ -6,9 +6,10 @@ use Rattle.stack_code.specs.declared.op.Op.{Op}
 use Rattle.stack_code.specs.declared.op.Op.TheVariants.{Jump, JumpIfFalse}
 use Rattle.tree_code.specs.declared.instr.Instr.{Instr}
 use Rattle.tree_code.specs.Pieces.{Piece, Labels, instr, nothing, one, ◌⨾◌, ahead, past, fork}
-use Rattle.simple_code.specs.Emitted.{Emitted, with_piece, with_instr, with_aim}
-use Rattle.block_compile.specs.Emits.{AreLeaves, labelled, with_open, Emits, IsSized}
-use Rattle.simple_code.specs.Jumps.{turn, turned, turned_at, landed}
+use Rattle.expr_compile.specs.Emitted.{Emitted, with_piece, with_instr, with_aim}
+use Rattle.tree_code.specs.Standing.{IsSized}
+use Rattle.block_compile.specs.Emits.{AreLeaves, labelled, with_open, Emits}
+use Rattle.expr_compile.specs.Jumps.{turn, turned, turned_at, landed}
 
 -- ---- jumps that are turned
 

@@ -16,17 +16,18 @@ use Rattle.stack_code.specs.Validity.{IsValid, IsFirst, JumpsOut, HasTwoDepths, 
 use Rattle.tree_code.specs.Pieces.{Piece, one, ◌⨾◌}
 use Rattle.tree_code.specs.Programs.{closed, params_code, fun_piece, fun_code, module_piece, module_code, last_line}
 use Rattle.tree_code.specs.Statements.{Place, body_code}
-use Rattle.tree_code.proofs.StatementFlows.{params_flows}
-use Rattle.simple_code.specs.Emitted.{Emitted, with_piece, with_instr}
-use Rattle.block_compile.specs.Emits.{Emits, IsSized}
-use Rattle.simple_code.specs.Finished.{code_of}
-use Rattle.simple_code.specs.Growth.{Grows}
-use Rattle.simple_code.specs.NamesOf.{locals_at}
+use Rattle.tree_code.proofs.SolidTrees.{params_solid}
+use Rattle.expr_compile.specs.Emitted.{Emitted, with_piece, with_instr}
+use Rattle.tree_code.specs.Standing.{IsSized}
+use Rattle.block_compile.specs.Emits.{Emits}
+use Rattle.expr_compile.specs.Finished.{code_of}
+use Rattle.expr_compile.specs.Growth.{Grows}
+use Rattle.expr_compile.specs.NamesOf.{locals_at}
 use Rattle.block_compile.specs.PlaceOf.{standing}
 use Rattle.block_compile.specs.declared.place.Place as rust
 use Rattle.block_compile.proofs.Bodies.{body_sized}
 use Rattle.block_compile.proofs.Heads.{view_fun}
-use Rattle.block_compile.proofs.Views.{view_stmt}
+use Rattle.py_tree.proofs.NodeViews.{stmt_parts}
 use Rattle.block_compile.proofs.Emitting.{sized_one, sized_then, emits_one, emits_piece, emits_then}
 
 abbrev pub empty : Emitted
@@ -40,7 +41,7 @@ pub fun_emits : (line : ℕ) (params : List Param) (body : Piece) (old first sec
     → third ≡ with_instr (op.Const kind.NoneValue) line second → new ≡ with_instr op.Return line third
     → Emits ((params_code line 0 params ⨾ body ⨾ one (op.Const kind.NoneValue) line) ⨾ one op.Return line) 0 old new
 fun_emits line params body old first second third new s p f c r =
-    let params_sized : IsSized (params_code line 0 params) = (params_flows 0 0 line 0 params 0).sized in
+    let params_sized : IsSized (params_code line 0 params) = (params_solid line 0 params).sized in
     let none : Emits (one (op.Const kind.NoneValue) line) 0 second third = subst (λ x. Emits (one (op.Const kind.NoneValue) line) 0 second x) (sym c) (emits_one 0 (op.Const kind.NoneValue) line second) in
     let back : Emits (one op.Return line) 0 third new = subst (λ x. Emits (one op.Return line) 0 third x) (sym r) (emits_one 0 op.Return line third) in
     let rest : Emits (body ⨾ one (op.Const kind.NoneValue) line) 0 first third = emits_then 0 body (one (op.Const kind.NoneValue) line) first second third s f none in
@@ -73,14 +74,14 @@ abbrev pub outer : ℕ → rust.Place
 outer error = record { error = error; depth = 0; again = 0; keeps = false }
 
 -- the code of a body and its end, and the module's code
-pub module_is : (error : ℕ) (body : Stmts) (scopes : Scoped) (at : rust.Place) (line : ℕ) (old first new : Emitted) → at ≡ outer error → old ≡ empty → Emits (body_code (standing scopes None at) body) at.again old first
+pub module_is : (error : ℕ) (body : Stmts) (locals : List ℕ) (at : rust.Place) (line : ℕ) (old first new : Emitted) → locals ≡ [] → at ≡ outer error → old ≡ empty → Emits (body_code (standing locals at) body) at.again old first
     → line ≡ last_line 1 body → new ≡ with_instr op.End line first → code_of new 0 0 ≡ module_code error body
-module_is error body scopes at line old first new at_is old_is f line_is new_is =
+module_is error body locals at line old first new none at_is old_is f line_is new_is =
     let place : Place = record { locals = []; error = error; depth = 0; keeps = false } in
     let inside : Emits (body_code place body) 0 empty first =
-    subst (λ o. Emits (body_code place body) 0 o first) old_is (subst (λ (a : rust.Place). Emits (body_code (standing scopes None a) body) a.again old first) at_is f) in
+    subst (λ o. Emits (body_code place body) 0 o first) old_is (subst (λ (a : rust.Place). Emits (body_code (standing [] a) body) a.again old first) at_is (subst (λ xs. Emits (body_code (standing xs at) body) at.again old first) none f)) in
     closed_is (module_piece error body) new 0 0
-    (module_emits (last_line 1 body) (body_code place body) empty first new (body_sized place (λ e. cc) body) inside (new_is ∙ ap (λ l. with_instr op.End l first) line_is))
+    (module_emits (last_line 1 body) (body_code place body) empty first new (body_sized place body) inside (new_is ∙ ap (λ l. with_instr op.End l first) line_is))
 
 -- the code of a function whose parts are known
 fun_parts : (error id n line : ℕ) (params : List Param) (body : Stmts) (first second third new : Emitted) → Grows (params_code line 0 params) empty first
@@ -90,14 +91,14 @@ fun_parts error id n line params body first second third new p f c r =
     let whole : FunDef = fun_def id n params body line in
     let place : Place = record { locals = locals_of whole; error = error; depth = 0; keeps = false } in
     closed_is (fun_piece error whole) new (length (locals_of whole)) (length params)
-    (fun_emits line params (body_code place body) empty first second third new (body_sized place (λ e. cc) body) p f c r)
+    (fun_emits line params (body_code place body) empty first second third new (body_sized place body) p f c r)
 
-pub fun_is : (error number count : ℕ) (scopes : Scoped) (f : rust_fun.FunDef) (params : List rust_param.Param) (body : List rust_stmt.Stmt) (at : rust.Place) (old first second third new : Emitted) → params ≡ (out-FunDef f).params.items → body ≡ (out-FunDef f).body.items
+pub fun_is : (error number count : ℕ) (scopes : Scoped) (seen : List ℕ) (f : rust_fun.FunDef) (params : List rust_param.Param) (body : List rust_stmt.Stmt) (at : rust.Place) (old first second third new : Emitted) → seen ≡ locals_at (slice_get scopes.locals number) → params ≡ (out-FunDef f).params.items → body ≡ (out-FunDef f).body.items
     → at ≡ outer error → old ≡ empty → slice_get scopes.locals number ≡ Some (locals_of (fun_view f)) → count ≡ length (locals_of (fun_view f))
-    → Grows (params_code (out-FunDef f).line 0 (map param_view params)) old first → Emits (body_code (standing scopes (Some number) at) (stmts_view body)) at.again first second
+    → Grows (params_code (out-FunDef f).line 0 (map param_view params)) old first → Emits (body_code (standing seen at) (stmts_view body)) at.again first second
     → third ≡ with_instr (op.Const kind.NoneValue) (out-FunDef f).line second → new ≡ with_instr op.Return (out-FunDef f).line third
     → code_of new count (length params) ≡ fun_code error (fun_view f)
-fun_is error number count scopes f params body at old first second third new params_is body_is at_is old_is locals_is count_is p g c r =
+fun_is error number count scopes seen f params body at old first second third new seen_is params_is body_is at_is old_is locals_is count_is p g c r =
     let ps : List Param = map param_view (out-FunDef f).params.items in
     let b : Stmts = stmts_view (out-FunDef f).body.items in
     let whole : FunDef = fun_def (out-FunDef f).id (out-FunDef f).name ps b (out-FunDef f).line in
@@ -105,8 +106,9 @@ fun_is error number count scopes f params body at old first second third new par
     let names : slice_get scopes.locals number ≡ Some (locals_of whole) = locals_is ∙ ap (λ w. Some (locals_of w)) view in
     let pushed : Grows (params_code (out-FunDef f).line 0 ps) empty first =
     λ labels. p labels ∙ ap (λ xs. with_piece (params_code (out-FunDef f).line 0 (map param_view xs)) labels old) params_is ∙ ap (with_piece (params_code (out-FunDef f).line 0 ps) labels) old_is in
-    let placed : Emits (body_code (standing scopes (Some number) (outer error)) (stmts_view body)) 0 first second =
-    subst (λ (a : rust.Place). Emits (body_code (standing scopes (Some number) a) (stmts_view body)) a.again first second) at_is g in
+    let placed : Emits (body_code (standing (locals_at (slice_get scopes.locals number)) (outer error)) (stmts_view body)) 0 first second =
+    subst (λ (a : rust.Place). Emits (body_code (standing (locals_at (slice_get scopes.locals number)) a) (stmts_view body)) a.again first second) at_is
+    (subst (λ xs. Emits (body_code (standing xs at) (stmts_view body)) at.again first second) seen_is g) in
     let named : Emits (body_code (record { locals = locals_of whole; error = error; depth = 0; keeps = false }) (stmts_view body)) 0 first second =
     subst (λ o. Emits (body_code (record { locals = locals_at o; error = error; depth = 0; keeps = false }) (stmts_view body)) 0 first second) names placed in
     let inside : Emits (body_code (record { locals = locals_of whole; error = error; depth = 0; keeps = false }) b) 0 first second =
@@ -119,8 +121,8 @@ fun_is error number count scopes f params body at old first second third new par
 -- the line of the last statement
 pub last_line_is : (line : ℕ) (body : List rust_stmt.Stmt) (s : rust_stmt.Stmt) → Some s ≡ slice_get body (length body - 1) → s.line ≡ last_line line (stmts_view body)
 last_line_is line [] s e = cc
-last_line_is line (b ∷ []) s e = let same : s ≡ b = cc in ap (λ (x : rust_stmt.Stmt). x.line) same ∙ sym (ap (λ v. last_line line (stmt v no_stmts)) (view_stmt b))
+last_line_is line (b ∷ []) s e = let same : s ≡ b = cc in ap (λ (x : rust_stmt.Stmt). x.line) same ∙ sym (ap (λ v. last_line line (stmt v no_stmts)) (stmt_parts b))
 last_line_is line (b ∷ d ∷ body) s e =
     let n : ℕ = length body in
     let there : suc (suc n) - 1 ≡ suc (suc n - 1) = omega arith in
-    last_line_is b.line (d ∷ body) s (e ∙ ap (slice_get (b ∷ d ∷ body)) there) ∙ sym (ap (λ v. last_line line (stmt v (stmts_view (d ∷ body)))) (view_stmt b))
+    last_line_is b.line (d ∷ body) s (e ∙ ap (slice_get (b ∷ d ∷ body)) there) ∙ sym (ap (λ v. last_line line (stmt v (stmts_view (d ∷ body)))) (stmt_parts b))

@@ -18,7 +18,7 @@ use Rattle.py_tree.specs.declared.statement.StmtKind.{out-StmtKind, roll-StmtKin
 use Rattle.py_tree.specs.declared.statement.StmtKind.TheVariants as kind
 use Rattle.scope_rules.specs.Tables.{locals, method_locals}
 use Rattle.tree_code.specs.Programs.{functions, classes, methods}
-use Rattle.block_compile.proofs.Views.{view_stmt}
+use Rattle.py_tree.proofs.NodeViews.{stmt_parts}
 
 pub view_def : (f : rust_fun.FunDef) → stmt_kind_view (kind.Def f) ≡ def (fun_view f)
 view_def f = ap stmt_kind_view (sym (kind.rolls-Def f)) ∙ fold-roll-StmtKind Member StmtKind ClassDef FunDef Arm Handler Stmt member_step stmt_kind_step class_step fun_step arm_step handler_step stmt_step (StmtKind-F.Def f)
@@ -34,7 +34,7 @@ view_fun f = fold_out-FunDef Member StmtKind ClassDef FunDef Arm Handler Stmt me
 
 -- the next statement of those that are left, and the others
 stmts_head : (body : List rust_stmt.Stmt) (i : ℕ) (s : rust_stmt.Stmt) → i < length body → s ≡ get_or body i s → stmts_view (drop i body) ≡ stmt (statement (stmt_kind_view s.kind) s.line) (stmts_view (drop (i + 1) body))
-stmts_head body i s l is = ap stmts_view (drop_more body i s l ∙ ap (λ x. x ∷ drop (i + 1) body) (sym is)) ∙ ap (λ v. stmt v (stmts_view (drop (i + 1) body))) (view_stmt s)
+stmts_head body i s l is = ap stmts_view (drop_more body i s l ∙ ap (λ x. x ∷ drop (i + 1) body) (sym is)) ∙ ap (λ v. stmt v (stmts_view (drop (i + 1) body))) (stmt_parts s)
 
 -- a statement defines nothing
 record IsPlain (k : StmtKind) : Type 0 where

@@ -7,4 +7,3 @@ pub mod PlainKinds
 pub mod Simple
 pub mod Steps
 pub mod Tabling
-pub mod Views

@@ -6,9 +6,10 @@ use Rattle.stack_code.specs.declared.op.Op.{Op}
 use Rattle.stack_code.specs.declared.op.Op.TheVariants.{Jump, JumpIfFalse}
 use Rattle.tree_code.specs.declared.instr.Instr.{Instr}
 use Rattle.tree_code.specs.Pieces.{Piece, Labels, instr, nothing, one, ◌⨾◌, go_out, past, fork, loop, guarded}
-use Rattle.simple_code.specs.Emitted.{Emitted, with_piece, with_instr, with_aim}
-use Rattle.block_compile.specs.Emits.{AreLeaves, labelled, with_open, Emits, IsSized, Begins, EndsOpen}
-use Rattle.simple_code.specs.Jumps.{turn, turned, landed, with_leave, left, with_range}
+use Rattle.expr_compile.specs.Emitted.{Emitted, with_piece, with_instr, with_aim}
+use Rattle.tree_code.specs.Standing.{IsSized}
+use Rattle.block_compile.specs.Emits.{AreLeaves, labelled, with_open, Emits, Begins, EndsOpen}
+use Rattle.expr_compile.specs.Jumps.{turn, turned, landed, with_leave, left, with_range}
 use Rattle.block_compile.proofs.Emitting.{three, turn_at, length-turned, sized_then, sized_one, longer, emits_piece, emits_one, emits_then, emits_past, emits_fork, emitted_length, emits_elsewhere}
 
 -- ---- pieces without jumps out of loops

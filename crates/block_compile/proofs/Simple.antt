@@ -8,14 +8,15 @@ use Rattle.stack_code.specs.declared.op.Op.{Op}
 use Rattle.stack_code.specs.declared.op.Op.TheVariants as op
 use Rattle.tree_code.specs.Pieces.{Piece, one, ◌⨾◌, go_out}
 use Rattle.tree_code.specs.Statements.{member_values, defines_class}
-use Rattle.simple_code.specs.Emitted.{Emitted, with_piece, with_instr}
-use Rattle.simple_code.specs.Growth.{Grows}
-use Rattle.simple_code.specs.Jumps.{with_leave}
-use Rattle.block_compile.specs.Emits.{Emits, IsSized}
+use Rattle.expr_compile.specs.Emitted.{Emitted, with_piece, with_instr}
+use Rattle.expr_compile.specs.Growth.{Grows}
+use Rattle.expr_compile.specs.Jumps.{with_leave}
+use Rattle.tree_code.specs.Standing.{IsSized}
+use Rattle.block_compile.specs.Emits.{Emits}
 use Rattle.block_compile.proofs.Emitting.{sized_one, emits_one, emits_then}
 use Rattle.block_compile.proofs.Loops.{piece_then, piece_one, emits_leave}
 use Rattle.block_compile.proofs.Bodies.{members_sized}
-use Rattle.block_compile.proofs.Views.{view_class_def}
+use Rattle.py_tree.proofs.NodeViews.{class_def_parts}
 
 -- ---- jumps out of a loop
 
@@ -47,5 +48,5 @@ class_done line c old mid made new members makes stores =
     let inside : Members = members_view (out-ClassDef c).members.items in
     let last : Grows (one (op.Class id) line ⨾ one (op.StoreName (out-ClassDef c).name) line) mid new =
     grows_then (one (op.Class id) line) (one (op.StoreName (out-ClassDef c).name) line) mid made new (sized_one (op.Class id) line) (grows_one (op.Class id) line mid made makes) (grows_one (op.StoreName (out-ClassDef c).name) line made new stores) in
-    subst (λ x. Grows (defines_class line x) old new) (sym (view_class_def c))
+    subst (λ x. Grows (defines_class line x) old new) (sym (class_def_parts c))
     (grows_then (member_values id inside) (one (op.Class id) line ⨾ one (op.StoreName (out-ClassDef c).name) line) old mid new (members_sized id inside) members last)

@@ -4,9 +4,10 @@ use Rattle.stack_code.specs.declared.code.Range.{Range}
 use Rattle.stack_code.specs.declared.op.Op.{Op}
 use Rattle.stack_code.specs.declared.op.Op.TheVariants.{Caught, Jump, JumpIfFalse}
 use Rattle.tree_code.specs.Pieces.{Piece, Labels, instr, one, ◌⨾◌, past, fork, loop, guarded}
-use Rattle.simple_code.specs.Emitted.{Emitted, with_piece, with_instr, with_aim}
-use Rattle.block_compile.specs.Emits.{Emits, IsSized, Begins, EndsOpen, Guards, Catches, labelled}
-use Rattle.simple_code.specs.Jumps.{landed, left, unset, with_range}
+use Rattle.expr_compile.specs.Emitted.{Emitted, with_piece, with_instr, with_aim}
+use Rattle.tree_code.specs.Standing.{IsSized}
+use Rattle.block_compile.specs.Emits.{Emits, Begins, EndsOpen, Guards, Catches, labelled}
+use Rattle.expr_compile.specs.Jumps.{landed, left, unset, with_range}
 use Rattle.block_compile.proofs.Emitting.{length-turned, sized_one, sized_then, emits_one, emits_then}
 use Rattle.block_compile.proofs.Loops.{loop_emitted, emits_guarded, arm_begins, clause_begins}
 

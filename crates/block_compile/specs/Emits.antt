@@ -3,12 +3,9 @@ use Rattle.std.specs.Prelude.{◌≡◌, ℕ, List, [], ◌∷◌, ◌++◌, len
 use Rattle.stack_code.specs.declared.op.Op.TheVariants.{Caught, Jump}
 use Rattle.tree_code.specs.declared.instr.Instr.{Instr}
 use Rattle.tree_code.specs.Pieces.{Piece, Labels}
-use Rattle.simple_code.specs.Emitted.{Emitted, with_instr}
-use Rattle.simple_code.specs.Jumps.{turned, landed, unset, with_range}
-
--- the code of a piece is as long wherever it stands
-abbrev pub IsSized : Piece → Type 0
-IsSized a = (labels : Labels) (place : ℕ) → length (a.code labels place) ≡ a.size
+use Rattle.tree_code.specs.Standing.{IsSized}
+use Rattle.expr_compile.specs.Emitted.{Emitted, with_instr}
+use Rattle.expr_compile.specs.Jumps.{turned, landed, unset, with_range}
 
 -- these jumps are those that leave the loop: aimed at any place they make the code that leaves it there, wherever the code stands
 abbrev pub AreLeaves : List ℕ → (ℕ → List Instr) → ℕ → Type 0

@@ -1,23 +1,17 @@
 -- Where statements stand.
-use Rattle.std.specs.Prelude.{◌≡◌, ℕ, ◌<◌, true, [], Option, Some, None}
+use Rattle.std.specs.Prelude.{ℕ, List, [], Option, Some, None}
 use Rattle.py_tree.specs.Tree.{Expr, Stmt, statement, StmtKind, break, continue, if, while, for, try, Member, declared}
 use Rattle.py_tree.specs.Tree as tree
 use Rattle.py_tree.specs.View.{Handler}
-use Rattle.scope_rules.specs.Scoped.{Scoped}
 use Rattle.stack_code.specs.declared.op.Op.TheVariants as op
 use Rattle.tree_code.specs.Expressions.{value}
 use Rattle.tree_code.specs.Pieces.{Piece, nothing, one, ◌⨾◌, past, fork}
 use Rattle.tree_code.specs.Statements.{Place, kind_code, body_code, caught, uncaught}
 use Rattle.block_compile.specs.declared.place.Place as rust
-use Rattle.simple_code.specs.NamesOf.{locals_in}
 
--- the place of statements in a function, or in the module's body, of these scopes
-abbrev pub standing : Scoped → Option ℕ → rust.Place → Place
-standing scopes fun at = record { locals = locals_in scopes fun; error = at.error; depth = at.depth; keeps = at.keeps }
-
--- what is kept on the stack lies on it
-abbrev pub IsFine : Place → Type 0
-IsFine at = at.keeps ≡ true → 0 < at.depth
+-- the place of statements in code with these locals
+abbrev pub standing : List ℕ → rust.Place → Place
+standing locals at = record { locals = locals; error = at.error; depth = at.depth; keeps = at.keeps }
 
 abbrev pub statement_code : Place → Stmt → Piece
 statement_code at (statement kind line) = kind_code at line kind

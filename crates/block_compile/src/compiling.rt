@@ -5,8 +5,8 @@ ghost use Rattle.scope_rules.specs.Scoped.{scoped};
 ghost use Rattle.block_compile.specs.Compiled.{compiled};
 
 use crate::functions::module_code;
-use crate::program::Program;
 use crate::tables::{Tables, tables_of};
+use program_tables::Program;
 use py_scope::Scopes;
 use py_tree::Module;
 use std::alloc::{AllocError, Global};
@@ -30,13 +30,5 @@ pub fn compile(alloc: Global, module: &Module, scopes: &Scopes) -> Result<Progra
         classes,
         class_names,
     } = tables;
-    Ok(Program {
-        module: code,
-        codes,
-        names,
-        scopes,
-        funs,
-        classes,
-        class_names,
-    })
+    Ok(Program::new(code, names, scopes, codes, funs, classes, class_names))
 }

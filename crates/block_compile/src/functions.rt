@@ -5,15 +5,15 @@ ghost use Rattle.scope_rules.specs.Tables.{locals_of};
 ghost use Rattle.stack_code.specs.Validity.{IsValid};
 ghost use Rattle.tree_code.specs.Programs as spec;
 ghost use Rattle.tree_code.specs.Programs.{params_code};
-ghost use Rattle.simple_code.specs.Finished.{code_of};
-ghost use Rattle.simple_code.specs.Growth.{Grows};
+ghost use Rattle.expr_compile.specs.Finished.{code_of};
+ghost use Rattle.expr_compile.specs.Growth.{Grows};
 
 use crate::place::Place;
 use crate::statements::push_body;
+use expr_compile::{Buffer, Names};
 use place_ids::{FunId, Id, LineNo, NameId};
 use py_scope::Scopes;
 use py_tree::{FunDef, Param, Stmt};
-use simple_code::{Buffer, Names};
 use stack_code::{CodeFault, ConstKind, Op, ValidCode, validate};
 use std::alloc::{AllocError, Global};
 
@@ -77,10 +77,7 @@ pub fn fun_code(
         return Err(AllocError);
     }
     let locals = scopes.local_count(number).unwrap_or(0);
-    let names = Names {
-        scopes,
-        fun: Some(number),
-    };
+    let names = Names::of_function(scopes, number);
     let mut buffer = Buffer::new(alloc);
     push_params(&mut buffer, params, fun.line)?;
     let at = outermost(error);
@@ -99,7 +96,7 @@ pub fn module_code(
 ) -> Result<ValidCode, AllocError>
     ensures { IfOk result (λ valid. valid ≡ spec.module_code error (stmts_view body.now)) }
 {
-    let names = Names { scopes, fun: None };
+    let names = Names::of_module(scopes);
     let mut buffer = Buffer::new(alloc);
     let at = outermost(error);
     push_body(&mut buffer, &names, &at, body)?;

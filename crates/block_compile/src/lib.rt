@@ -5,11 +5,9 @@ mod compiling;
 mod functions;
 mod place;
 mod plain;
-mod program;
 mod statements;
 mod tables;
 
-pub use code_blocks::{Blocks, blocks};
 pub use compiling::compile;
-pub use program::Program;
-pub use tree_code::{ClassRow, FunRow};
+pub use program_tables::{ClassRow, FunRow, Program};
+pub use stack_code::{Blocks, blocks};

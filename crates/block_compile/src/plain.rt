@@ -7,17 +7,16 @@ ghost use Rattle.tree_code.specs.Pieces.{◌⨾◌, one, go_out};
 ghost use Rattle.tree_code.specs.Expressions.{value as spec_value};
 ghost use Rattle.tree_code.specs.Statements.{defines, defines_class, member_values};
 ghost use Rattle.block_compile.specs.Emits.{Emits};
-ghost use Rattle.simple_code.specs.Growth.{Grows};
+ghost use Rattle.expr_compile.specs.Growth.{Grows};
 ghost use Rattle.block_compile.specs.PlaceOf.{standing, plain_code, member_value};
 
 use crate::place::Place;
-use place_ids::{ClassId, LineNo, NameId};
-use py_scope::Scopes;
-use py_tree::{ClassDef, Expr, FunDef, Member, StmtKind};
-use simple_code::{
+use expr_compile::{
     Buffer, Names, push_annotated, push_assert, push_assign, push_augment, push_expression,
     push_froms, push_imports, push_raise, push_return, push_value,
 };
+use place_ids::{ClassId, LineNo, NameId};
+use py_tree::{ClassDef, Expr, FunDef, Member, StmtKind};
 use stack_code::Op;
 use std::alloc::AllocError;
 
@@ -29,7 +28,7 @@ pub fn push_plain(
     kind: &StmtKind,
     line: LineNo,
 ) -> Result<(), AllocError>
-    ensures { OnOk result (Grows (plain_code (standing names.now.scopes.now names.now.fun at.now) line (stmt_kind_view kind.now)) buffer.old buffer.new) }
+    ensures { OnOk result (Grows (plain_code (standing names.now at.now) line (stmt_kind_view kind.now)) buffer.old buffer.new) }
 {
     match kind {
         StmtKind::Return(value) => push_return(buffer, names, value, line),
@@ -50,7 +49,7 @@ pub fn push_plain(
         StmtKind::Annotated(target, value) => push_annotated(buffer, names, target, value, line),
         StmtKind::Expression(value) => push_expression(buffer, names, value, line),
         StmtKind::Def(fun) => push_def(buffer, fun, line),
-        StmtKind::Class(class) => push_class(buffer, names.scopes, class, line),
+        StmtKind::Class(class) => push_class(buffer, names, class, line),
         _ => Ok(()),
     }
 }
@@ -75,27 +74,27 @@ fn push_def(buffer: &mut Buffer, fun: &FunDef, line: LineNo) -> Result<(), Alloc
 // The values of the members, and then the class.
 fn push_class(
     buffer: &mut Buffer,
-    scopes: &Scopes,
+    names: &Names<'_>,
     class: &ClassDef,
     line: LineNo,
 ) -> Result<(), AllocError>
     ensures { OnOk result (Grows (defines_class line (class_view class.now)) buffer.old buffer.new) }
 {
-    push_members(buffer, scopes, class.id, class.members.as_slice())?;
+    push_members(buffer, names, class.id, class.members.as_slice())?;
     buffer.push(Op::Class(class.id), line)?;
     buffer.push(Op::StoreName(class.name), line)
 }
 
 fn push_members(
     buffer: &mut Buffer,
-    scopes: &Scopes,
+    names: &Names<'_>,
     class: ClassId,
     members: &[Member],
 ) -> Result<(), AllocError>
     ensures { OnOk result (Grows (member_values class (members_view members.now)) buffer.old buffer.new) }
 {
     for member in members {
-        push_member(buffer, scopes, class, member)?;
+        push_member(buffer, names, class, member)?;
     }
     Ok(())
 }
@@ -103,16 +102,16 @@ fn push_members(
 // A member's value.
 fn push_member(
     buffer: &mut Buffer,
-    scopes: &Scopes,
+    names: &Names<'_>,
     class: ClassId,
     member: &Member,
 ) -> Result<(), AllocError>
     ensures { OnOk result (Grows (member_value class (member_view member.now)) buffer.old buffer.new) }
 {
     match member {
-        Member::Value(name, value, own) => push_stored(buffer, scopes, class, *name, value, *own),
+        Member::Value(name, value, own) => push_stored(buffer, names, class, *name, value, *own),
         Member::Annotated(name, value, own) => {
-            push_declared(buffer, scopes, class, *name, value, *own)
+            push_declared(buffer, names, class, *name, value, *own)
         }
         Member::Pass | Member::Ellipsis | Member::Text | Member::Method(_) => Ok(()),
     }
@@ -121,7 +120,7 @@ fn push_member(
 // A member with an annotation, which may have no value.
 fn push_declared(
     buffer: &mut Buffer,
-    scopes: &Scopes,
+    names: &Names<'_>,
     class: ClassId,
     name: NameId,
     value: &Option<Expr>,
@@ -130,7 +129,7 @@ fn push_declared(
     ensures { OnOk result (Grows (member_value class (declared name (option_map expr_view value.now) line)) buffer.old buffer.new) }
 {
     match value {
-        Some(value) => push_stored(buffer, scopes, class, name, value, line),
+        Some(value) => push_stored(buffer, names, class, name, value, line),
         None => Ok(()),
     }
 }
@@ -138,7 +137,7 @@ fn push_declared(
 // A value in the module's names, which goes into a member.
 fn push_stored(
     buffer: &mut Buffer,
-    scopes: &Scopes,
+    names: &Names<'_>,
     class: ClassId,
     name: NameId,
     value: &Expr,
@@ -146,7 +145,7 @@ fn push_stored(
 ) -> Result<(), AllocError>
     ensures { OnOk result (Grows (spec_value [] (expr_view value.now) ⨾ one (op.StoreMember class name) line) buffer.old buffer.new) }
 {
-    let names = Names { scopes, fun: None };
-    push_value(buffer, &names, value)?;
+    let body = names.outside();
+    push_value(buffer, &body, value)?;
     buffer.push(Op::StoreMember(class, name), line)
 }

@@ -6,15 +6,14 @@ ghost use Rattle.tree_code.specs.Pieces.{◌⨾◌, fork, loop, nothing};
 ghost use Rattle.tree_code.specs.Expressions.{value, put};
 ghost use Rattle.tree_code.specs.Statements.{kind_code, body_code, arms_code, handlers_code, caught, uncaught, in_while, in_for};
 ghost use Rattle.block_compile.specs.Emits.{Emits, Begins, BeginsAll, EndsOpen, Guards, Catches};
-ghost use Rattle.simple_code.specs.Growth.{Grows};
-ghost use Rattle.simple_code.specs.NamesOf.{locals_in};
+ghost use Rattle.expr_compile.specs.Growth.{Grows};
 ghost use Rattle.block_compile.specs.PlaceOf.{standing, statement_code, clause_inner, clause_code};
 
 use crate::place::Place;
 use crate::plain::{push_break, push_plain};
+use expr_compile::{Buffer, Names, push_put, push_value};
 use place_ids::{LineNo, NameId};
 use py_tree::{Arm, Expr, Handler, Stmt, StmtKind};
-use simple_code::{Buffer, Names, push_put, push_value};
 use sqlite_items::Items;
 use stack_code::{Op, Range};
 use std::alloc::AllocError;
@@ -27,8 +26,7 @@ pub fn push_body(
     at: &Place,
     body: &[Stmt],
 ) -> Result<(), AllocError>
-    requires { at.now.keeps ≡ true → 0 < at.now.depth }
-    ensures { OnOk result (Emits (body_code (standing names.now.scopes.now names.now.fun at.now) (stmts_view body.now)) at.now.again buffer.old buffer.new) }
+    ensures { OnOk result (Emits (body_code (standing names.now at.now) (stmts_view body.now)) at.now.again buffer.old buffer.new) }
 {
     for stmt in body {
         push_statement(buffer, names, at, stmt)?;
@@ -43,8 +41,7 @@ fn push_statement(
     at: &Place,
     stmt: &Stmt,
 ) -> Result<(), AllocError>
-    requires { at.now.keeps ≡ true → 0 < at.now.depth }
-    ensures { OnOk result (Emits (statement_code (standing names.now.scopes.now names.now.fun at.now) (stmt_view stmt.now)) at.now.again buffer.old buffer.new) }
+    ensures { OnOk result (Emits (statement_code (standing names.now at.now) (stmt_view stmt.now)) at.now.again buffer.old buffer.new) }
 {
     let line = stmt.line;
     match &stmt.kind {
@@ -81,8 +78,7 @@ fn push_arms(
     arms: &[Arm],
     line: LineNo,
 ) -> Result<Items<u32>, AllocError>
-    requires { at.now.keeps ≡ true → 0 < at.now.depth }
-    ensures { IfOk result (λ ends. BeginsAll (arms_code (standing names.now.scopes.now names.now.fun at.now) line (arms_view arms.now)) at.now.again buffer.old buffer.new ends) }
+    ensures { IfOk result (λ ends. BeginsAll (arms_code (standing names.now at.now) line (arms_view arms.now)) at.now.again buffer.old buffer.new ends) }
 {
     let mut ends: Items<u32> = Items::new(buffer.alloc());
     for arm in arms {
@@ -101,8 +97,7 @@ fn push_arm(
     arm: &Arm,
     line: LineNo,
 ) -> Result<u32, AllocError>
-    requires { at.now.keeps ≡ true → 0 < at.now.depth }
-    ensures { let place = standing names.now.scopes.now names.now.fun at.now in
+    ensures { let place = standing names.now at.now in
         IfOk result (λ end. Begins (λ rest. value place.locals (arm_view arm.now).0 ⨾ fork line (body_code place (arm_view arm.now).1) rest) at.now.again buffer.old buffer.new end) }
 {
     push_value(buffer, names, &arm.test)?;
@@ -123,7 +118,7 @@ fn push_while(
     test: &Expr,
     line: LineNo,
 ) -> Result<(), AllocError>
-    ensures { let place = standing names.now.scopes.now names.now.fun at.now in
+    ensures { let place = standing names.now at.now in
         OnOk result (Grows (loop op.JumpIfFalse line (value place.locals (expr_view test.now)) (body_code (in_while place) (stmts_view body.now))) buffer.old buffer.new) }
 {
     let again = buffer.place();
@@ -149,7 +144,7 @@ fn push_for(
     through: &Expr,
     line: LineNo,
 ) -> Result<(), AllocError>
-    ensures { let place = standing names.now.scopes.now names.now.fun at.now in
+    ensures { let place = standing names.now at.now in
         OnOk result (Grows (value place.locals (expr_view through.now) ⨾ loop op.ForNext line nothing (put place.locals (expr_view target.now) ⨾ body_code (in_for place) (stmts_view body.now))) buffer.old buffer.new) }
 {
     push_value(buffer, names, through)?;
@@ -181,8 +176,7 @@ fn push_guarded(
     at: &Place,
     body: &[Stmt],
 ) -> Result<Guard, AllocError>
-    requires { at.now.keeps ≡ true → 0 < at.now.depth }
-    ensures { IfOk result (λ guard. Guards (body_code (standing names.now.scopes.now names.now.fun at.now) (stmts_view body.now)) at.now.again buffer.old buffer.new guard.number guard.first guard.past) }
+    ensures { IfOk result (λ guard. Guards (body_code (standing names.now at.now) (stmts_view body.now)) at.now.again buffer.old buffer.new guard.number guard.first guard.past) }
 {
     let first = buffer.place();
     let number = buffer.open_range()?;
@@ -228,8 +222,7 @@ fn push_handlers(
     handlers: &[Handler],
     line: LineNo,
 ) -> Result<(), AllocError>
-    requires { at.now.keeps ≡ true → 0 < at.now.depth }
-    ensures { OnOk result (Emits (handlers_code (standing names.now.scopes.now names.now.fun at.now) line (handlers_view handlers.now)) at.now.again buffer.old buffer.new) }
+    ensures { OnOk result (Emits (handlers_code (standing names.now at.now) line (handlers_view handlers.now)) at.now.again buffer.old buffer.new) }
 {
     let mut ends: Items<u32> = Items::new(buffer.alloc());
     for handler in handlers {
@@ -250,8 +243,7 @@ fn push_handler(
     at: &Place,
     handler: &Handler,
 ) -> Result<u32, AllocError>
-    requires { at.now.keeps ≡ true → 0 < at.now.depth }
-    ensures { IfOk result (λ end. Begins (clause_code (standing names.now.scopes.now names.now.fun at.now) (handler_view handler.now)) at.now.again buffer.old buffer.new end) }
+    ensures { IfOk result (λ end. Begins (clause_code (standing names.now at.now) (handler_view handler.now)) at.now.again buffer.old buffer.new end) }
 {
     let line = handler.line;
     match &handler.class {
@@ -276,8 +268,7 @@ fn push_clause(
     at: &Place,
     handler: &Handler,
 ) -> Result<u32, AllocError>
-    requires { at.now.keeps ≡ true → 0 < at.now.depth }
-    ensures { let place = standing names.now.scopes.now names.now.fun at.now in
+    ensures { let place = standing names.now at.now in
         IfOk result (λ end. EndsOpen (clause_inner place (handler_view handler.now)) (handler_view handler.now).3 at.now.again buffer.old buffer.new end) }
 {
     push_caught(buffer, names, handler.name, handler.line)?;
@@ -294,7 +285,7 @@ fn push_caught(
     name: Option<NameId>,
     line: LineNo,
 ) -> Result<(), AllocError>
-    ensures { OnOk result (Grows (caught (locals_in names.now.scopes.now names.now.fun) line name) buffer.old buffer.new) }
+    ensures { OnOk result (Grows (caught names.now line name) buffer.old buffer.new) }
 {
     match name {
         Some(name) => buffer.push(names.store(name), line),
@@ -309,7 +300,7 @@ fn push_uncaught(
     name: Option<NameId>,
     line: LineNo,
 ) -> Result<(), AllocError>
-    ensures { OnOk result (Grows (uncaught (locals_in names.now.scopes.now names.now.fun) line name) buffer.old buffer.new) }
+    ensures { OnOk result (Grows (uncaught names.now line name) buffer.old buffer.new) }
 {
     match name {
         Some(name) => buffer.push(names.forget(name), line),

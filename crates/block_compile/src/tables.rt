@@ -7,13 +7,13 @@ ghost use Rattle.block_compile.specs.Tabled.{with_fun, with_funs, with_class, wi
 
 use crate::functions::fun_code;
 use place_ids::{ClassId, FunId, Id, NameId};
+use program_tables::{ClassRow, FunRow};
 use py_scope::Scopes;
 use py_tree::{ClassDef, FunDef, Literal, Member, Param, Stmt, StmtKind};
 use sqlite_items::Items;
 use stack_code::ValidCode;
 use std::alloc::{AllocError, Global};
 use std::marker::Model;
-use tree_code::{ClassRow, FunRow};
 
 /// The codes and the rows of the functions so far, and the rows and the names of the classes.
 #[derive(Drop)]

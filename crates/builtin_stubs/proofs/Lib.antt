@@ -1,2 +1,4 @@
 pub mod GroupLemmas
 pub mod RowLemmas
+pub mod FirstLemmas
+pub mod OperatorLemmas

@@ -1,14 +1,11 @@
 -- The row at the number that a name leads to.
-use Rattle.std.proofs.Common.{◌≡◌, ℕ, suc, ◌+◌, true, false, List, [], ◌∷◌, ◌++◌, Option, Some, None, option_map, if◌then◌else◌, map, length, slice_get, refl, sym, ap, ◌∙◌, subst, arith}
+use Rattle.std.proofs.Common.{◌≡◌, ℕ, suc, ◌+◌, true, false, List, [], ◌∷◌, ◌++◌, Option, Some, None, option_map, if◌then◌else◌, length, slice_get, refl, sym, ap, ◌∙◌, subst, arith}
 use Rattle.std.specs.Str.{bytes_eq}
 use Rattle.std.specs.Cmp.Lexicographic.{bytes_decides}
 use Rattle.builtin_stubs.specs.declared.basic.Basic.{Basic}
 use Rattle.builtin_stubs.specs.declared.basic.Basic.TheVariants as kinds
 use Rattle.builtin_stubs.specs.Meanings.{Native}
-use Rattle.builtin_stubs.specs.Functions.{function_natives}
-use Rattle.builtin_stubs.specs.Containers.{list_natives, dict_natives, tuple_natives}
-use Rattle.builtin_stubs.specs.Texts.{str_natives, bytes_natives, int_natives, float_natives, exception_natives}
-use Rattle.builtin_stubs.specs.Natives.{Head, head, place_named, number_in, function_number, method_number, native_head}
+use Rattle.builtin_stubs.specs.Natives.{function_natives, list_natives, dict_natives, tuple_natives, str_natives, bytes_natives, int_natives, float_natives, exception_natives, place_named, number_in, function_number, method_number, native_head}
 
 none_is_not : {X : Type 0} (x : X) → None ≡ Some x → ⊥
 none_is_not x e = cc
@@ -17,14 +14,14 @@ same_inside : (x y : ℕ) → Some x ≡ Some y → x ≡ y
 same_inside x y e = cc
 
 module _ (name : List ℕ) where
-  abbrev IsAt : List Head → ℕ → Type 0
+  abbrev IsAt : List Native → ℕ → Type 0
   IsAt hs k = option_map (λ h. h.name) (slice_get hs k) ≡ Some name
 
-  later : (h : Head) (hs : List Head) (place : Option ℕ) (k : ℕ) → ((j : ℕ) → place ≡ Some j → IsAt hs j) → option_map suc place ≡ Some k → IsAt (h ∷ hs) k
+  later : (h : Native) (hs : List Native) (place : Option ℕ) (k : ℕ) → ((j : ℕ) → place ≡ Some j → IsAt hs j) → option_map suc place ≡ Some k → IsAt (h ∷ hs) k
   later h hs None k each e = absurd (none_is_not k e)
   later h hs (Some j) k each e = subst (IsAt (h ∷ hs)) (same_inside (suc j) k e) (each j refl)
 
-  place_row : (rows after : List Head) (k : ℕ) → place_named rows name ≡ Some k → IsAt (rows ++ after) k
+  place_row : (rows after : List Native) (k : ℕ) → place_named rows name ≡ Some k → IsAt (rows ++ after) k
   place_row [] after k e = absurd (none_is_not k e)
   place_row (h ∷ rows) after k e =
       elim (bytes_eq name h.name) as (λ b. bytes_eq name h.name ≡ b → (if b then Some 0 else option_map suc (place_named rows name)) ≡ Some k → IsAt (h ∷ (rows ++ after)) k) [
@@ -32,13 +29,13 @@ module _ (name : List ℕ) where
         | false ↦ λ _ found. later h (rows ++ after) (place_named rows name) k (λ j. place_row rows after j) found
       ] refl e
 
-shifted : (before hs : List Head) (k : ℕ) → slice_get (before ++ hs) (length before + k) ≡ slice_get hs k
+shifted : (before hs : List Native) (k : ℕ) → slice_get (before ++ hs) (length before + k) ≡ slice_get hs k
 shifted [] hs k = ap (slice_get hs) (omega arith)
 shifted (h ∷ before) hs k =
     let e : length (h ∷ before) + k ≡ suc (length before + k) = omega arith in
     ap (slice_get (h ∷ (before ++ hs))) e ∙ shifted before hs k
 
-numbered : (before rows after : List Head) (name : List ℕ) (n : ℕ) → number_in (length before) rows name ≡ Some n → IsAt name (before ++ (rows ++ after)) n
+numbered : (before rows after : List Native) (name : List ℕ) (n : ℕ) → number_in (length before) rows name ≡ Some n → IsAt name (before ++ (rows ++ after)) n
 numbered before rows after name n e = by (place_named rows name) refl e
   where
     by : (place : Option ℕ) → place_named rows name ≡ place → option_map (λ p. length before + p) place ≡ Some n → IsAt name (before ++ (rows ++ after)) n
@@ -47,12 +44,9 @@ numbered before rows after name n e = by (place_named rows name) refl e
         subst (IsAt name (before ++ (rows ++ after))) (same_inside (length before + k) n found)
         (ap (option_map (λ h. h.name)) (shifted before (rows ++ after) k) ∙ place_row name rows after k is)
 
-abbrev heads : List Native → List Head
-heads ns = map head ns
-
 pub function_row : (name : List ℕ) (n : ℕ) → function_number name ≡ Some n → option_map (λ h. h.name) (native_head n) ≡ Some name
 function_row name n e =
-    numbered [] (heads function_natives) (heads (list_natives ++ dict_natives ++ tuple_natives ++ str_natives ++ bytes_natives ++ int_natives ++ float_natives ++ exception_natives)) name n e
+    numbered [] function_natives (list_natives ++ dict_natives ++ tuple_natives ++ str_natives ++ bytes_natives ++ int_natives ++ float_natives ++ exception_natives) name n e
 
 abbrev before_dict : List Native
 before_dict = function_natives ++ list_natives
@@ -76,15 +70,15 @@ abbrev before_exception : List Native
 before_exception = before_float ++ float_natives
 
 pub method_row : (k : Basic) (name : List ℕ) (n : ℕ) → method_number k name ≡ Some n → option_map (λ h. h.name) (native_head n) ≡ Some name
-method_row kinds.List name n e = numbered (heads function_natives) (heads list_natives) (heads (dict_natives ++ tuple_natives ++ str_natives ++ bytes_natives ++ int_natives ++ float_natives ++ exception_natives)) name n e
-method_row kinds.Dict name n e = numbered (heads before_dict) (heads dict_natives) (heads (tuple_natives ++ str_natives ++ bytes_natives ++ int_natives ++ float_natives ++ exception_natives)) name n e
-method_row kinds.Tuple name n e = numbered (heads before_tuple) (heads tuple_natives) (heads (str_natives ++ bytes_natives ++ int_natives ++ float_natives ++ exception_natives)) name n e
-method_row kinds.Str name n e = numbered (heads before_str) (heads str_natives) (heads (bytes_natives ++ int_natives ++ float_natives ++ exception_natives)) name n e
-method_row kinds.Bytes name n e = numbered (heads before_bytes) (heads bytes_natives) (heads (int_natives ++ float_natives ++ exception_natives)) name n e
-method_row kinds.Int name n e = numbered (heads before_int) (heads int_natives) (heads (float_natives ++ exception_natives)) name n e
-method_row kinds.Bool name n e = numbered (heads before_int) (heads int_natives) (heads (float_natives ++ exception_natives)) name n e
-method_row kinds.Float name n e = numbered (heads before_float) (heads float_natives) (heads exception_natives) name n e
-method_row kinds.Exception name n e = numbered (heads before_exception) (heads exception_natives) [] name n e
+method_row kinds.List name n e = numbered function_natives list_natives (dict_natives ++ tuple_natives ++ str_natives ++ bytes_natives ++ int_natives ++ float_natives ++ exception_natives) name n e
+method_row kinds.Dict name n e = numbered before_dict dict_natives (tuple_natives ++ str_natives ++ bytes_natives ++ int_natives ++ float_natives ++ exception_natives) name n e
+method_row kinds.Tuple name n e = numbered before_tuple tuple_natives (str_natives ++ bytes_natives ++ int_natives ++ float_natives ++ exception_natives) name n e
+method_row kinds.Str name n e = numbered before_str str_natives (bytes_natives ++ int_natives ++ float_natives ++ exception_natives) name n e
+method_row kinds.Bytes name n e = numbered before_bytes bytes_natives (int_natives ++ float_natives ++ exception_natives) name n e
+method_row kinds.Int name n e = numbered before_int int_natives (float_natives ++ exception_natives) name n e
+method_row kinds.Bool name n e = numbered before_int int_natives (float_natives ++ exception_natives) name n e
+method_row kinds.Float name n e = numbered before_float float_natives exception_natives name n e
+method_row kinds.Exception name n e = numbered before_exception exception_natives [] name n e
 method_row kinds.NoneKind name n e = absurd (none_is_not n e)
 method_row kinds.View name n e = absurd (none_is_not n e)
 method_row kinds.Range name n e = absurd (none_is_not n e)

@@ -1,8 +1,7 @@
 pub mod Meanings
-pub mod Functions
-pub mod Containers
-pub mod Texts
 pub mod Natives
+pub mod Operands
 pub mod Operators
+pub mod Kinds
 pub mod Outside
 pub mod Laws

@@ -1,8 +1,20 @@
 -- What a row of the tables of natives says: the arguments, what enters the receiver, and what comes back.
 use Rattle.std.specs.Prelude.{ℕ, Bool, true, false, List, [], ◌∷◌, Option, Some, None}
-use Rattle.builtin_stubs.specs.declared.basic.Basic.{Basic}
 use Rattle.builtin_stubs.specs.declared.basic.Basic.TheVariants.{NoneKind}
+use Rattle.builtin_stubs.specs.declared.deed.Deed.{Deed}
+use Rattle.builtin_stubs.specs.declared.deed.Deed.TheVariants as deed
 use Rattle.builtin_stubs.specs.declared.native.NativeSort.{NativeSort}
+use Rattle.builtin_stubs.specs.declared.parts.Effect.{Effect}
+use Rattle.builtin_stubs.specs.declared.parts.Effects as several
+use Rattle.builtin_stubs.specs.declared.parts.Effects.TheVariants as effects
+use Rattle.builtin_stubs.specs.declared.parts.Outcome.{Outcome}
+use Rattle.builtin_stubs.specs.declared.parts.Outcome.TheVariants as outcome
+use Rattle.builtin_stubs.specs.declared.parts.Part.{Part}
+use Rattle.builtin_stubs.specs.declared.parts.Part.TheVariants as part
+use Rattle.builtin_stubs.specs.declared.parts.Parts.{Parts}
+use Rattle.builtin_stubs.specs.declared.parts.Parts.TheVariants as parts
+use Rattle.builtin_stubs.specs.declared.parts.Place.{Place}
+use Rattle.builtin_stubs.specs.declared.parts.Place.TheVariants as place
 
 -- ---- arguments
 
@@ -23,79 +35,44 @@ exactly n = between n n
 abbrev pub at_least : ℕ → Arguments
 at_least n = record { least = n; most = None; words = []; any_words = false }
 
-abbrev pub with_words : Arguments → List (List ℕ) → Arguments
-with_words arguments words = record arguments { words = words }
-
-abbrev pub with_any_words : Arguments → Arguments
-with_any_words arguments = record arguments { any_words = true }
-
-abbrev pub any_arguments : Arguments
-any_arguments = with_any_words (at_least 0)
-
--- of what isn't called
-abbrev pub uncalled : Arguments
-uncalled = exactly 0
-
 -- ---- what enters and what comes back
 
-pub data Part : Type 0 where
-  -- a value of a kind
-  kind : Basic → Part
-  -- the argument at a place, where it is given
-  argument : ℕ → Part
-  -- the argument at a place, and None where it isn't given
-  argument_or_none : ℕ → Part
-  -- what iterating the argument at a place gives
-  items : ℕ → Part
-  -- the keys and the values of the argument at a place, and anything where it is no dict
-  keys : ℕ → Part
-  values : ℕ → Part
-  -- the names of the arguments given by name, and those arguments
-  word_names : Part
-  word_values : Part
-  -- what the receiver holds
-  own_elements : Part
-  own_keys : Part
-  own_values : Part
+abbrev pub parts_of : Parts → List Part
+parts_of (parts.One p) = p ∷ []
+parts_of (parts.Two p q) = p ∷ q ∷ []
 
--- where a part enters the receiver
-pub data Place : Type 0 where
-  to_elements : Place
-  to_keys : Place
-  to_values : Place
-
-pub record Effect : Type 0 where
-  pub place : Place
-  pub part : Part
+abbrev pub effects_in : several.Effects → List Effect
+effects_in effects.Nothing = []
+effects_in (effects.One e) = e ∷ []
+effects_in (effects.Two e f) = e ∷ f ∷ []
 
 abbrev pub enters : Place → Part → Effect
 enters place part = record { place = place; part = part }
 
-pub data Outcome : Type 0 where
-  -- one of the parts
-  gives : List Part → Outcome
-  -- an object that is made here, with the parts
-  new_list : List Part → Outcome
-  new_tuple : List Part → Outcome
-  new_dict : (keys values : List Part) → Outcome
-  -- a view of the parts, and one of two-place tuples
-  view : List Part → Outcome
-  pair_view : (first second : List Part) → Outcome
-  -- of one argument its items, of several the arguments
-  least_or_most : Outcome
-  -- whether the first argument is an instance of the second
-  tests_class : Outcome
-  -- a fresh object of no other kind, an instance of the class that is called, a tuple of anything, and what isn't followed
-  fresh_object : Outcome
-  instance_of_it : Outcome
-  tuple_of_anything : Outcome
-  not_followed : Outcome
-
-abbrev pub gives_kind : Basic → Outcome
-gives_kind k = gives (kind k ∷ [])
+-- all that may enter the receiver
+abbrev pub effects_of : Deed → List Effect
+effects_of (deed.ByParts es o) = effects_in es
+effects_of deed.Inserts = enters place.Elements (part.Argument 1) ∷ []
+effects_of deed.SetsDefault = enters place.Keys (part.Argument 0) ∷ enters place.Values (part.Argument 1) ∷ []
+effects_of deed.Updates = enters place.Keys (part.Keys 0) ∷ enters place.Values (part.Values 0) ∷ []
+effects_of _ = []
 
 abbrev pub gives_none : Outcome
-gives_none = gives_kind NoneKind
+gives_none = outcome.Gives (parts.One (part.Kind NoneKind))
+
+-- all that may come back
+abbrev pub outcome_of : Deed → Outcome
+outcome_of (deed.ByParts es o) = o
+outcome_of deed.PopsPart = outcome.Gives (parts.One part.OwnElements)
+outcome_of deed.GetsValue = outcome.Gives (parts.Two part.OwnValues (part.ArgumentOrNone 1))
+outcome_of deed.PopsPair = outcome.Gives (parts.Two part.OwnValues (part.Argument 1))
+outcome_of deed.SetsDefault = outcome.Gives (parts.Two part.OwnValues (part.Argument 1))
+outcome_of _ = gives_none
+
+-- whether it is a class that gives an instance of itself
+abbrev pub gives_instance : Deed → Bool
+gives_instance (deed.ByParts es outcome.InstanceOfIt) = true
+gives_instance _ = false
 
 -- ---- a row
 
@@ -103,13 +80,4 @@ pub record Native : Type 0 where
   pub name : List ℕ
   pub sort : NativeSort
   pub arguments : Arguments
-  pub effects : List Effect
-  pub outcome : Outcome
-
-abbrev pub row : NativeSort → List ℕ → Arguments → List Effect → Outcome → Native
-row sort name arguments effects outcome = record { name = name; sort = sort; arguments = arguments; effects = effects; outcome = outcome }
-
--- rows that differ in their name alone
-abbrev pub rows : NativeSort → List (List ℕ) → Arguments → List Effect → Outcome → List Native
-rows sort [] arguments effects outcome = []
-rows sort (name ∷ names) arguments effects outcome = row sort name arguments effects outcome ∷ rows sort names arguments effects outcome
+  pub deed : Deed

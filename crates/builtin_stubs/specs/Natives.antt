@@ -3,12 +3,48 @@ use Rattle.std.specs.Prelude.{ℕ, suc, ◌+◌, List, [], ◌∷◌, ◌++◌, 
 use Rattle.std.specs.Str.{bytes_eq}
 use Rattle.builtin_stubs.specs.declared.basic.Basic.{Basic}
 use Rattle.builtin_stubs.specs.declared.basic.Basic.TheVariants as kinds
+use Rattle.builtin_stubs.specs.declared.bytes_methods.TheConstants.{BYTES_METHODS, INT_METHODS, FLOAT_METHODS, EXCEPTION_METHODS}
+use Rattle.builtin_stubs.specs.declared.container_methods.TheConstants.{LIST_METHODS, DICT_METHODS, TUPLE_METHODS}
+use Rattle.builtin_stubs.specs.declared.deed.Deed.{Deed}
+use Rattle.builtin_stubs.specs.declared.functions.TheConstants.{FUNCTIONS}
 use Rattle.builtin_stubs.specs.declared.native.NativeRow.{NativeRow}
 use Rattle.builtin_stubs.specs.declared.native.NativeSort.{NativeSort}
-use Rattle.builtin_stubs.specs.Meanings.{Arguments, Native}
-use Rattle.builtin_stubs.specs.Functions.{function_natives}
-use Rattle.builtin_stubs.specs.Containers.{list_natives, dict_natives, tuple_natives}
-use Rattle.builtin_stubs.specs.Texts.{str_natives, bytes_natives, int_natives, float_natives, exception_natives}
+use Rattle.builtin_stubs.specs.declared.native.Takes.{Takes}
+use Rattle.builtin_stubs.specs.declared.str_methods.TheConstants.{STR_METHODS}
+use Rattle.builtin_stubs.specs.Meanings.{Native}
+
+-- ---- the tables
+
+abbrev pub native : List ℕ → NativeSort → Takes → (words : List (List ℕ)) → Deed → Native
+native name sort takes words deed =
+    record { name = name; sort = sort; arguments = record { least = takes.least; most = takes.most; words = words; any_words = takes.any_words }; deed = deed }
+
+abbrev pub function_natives : List Native
+function_natives = map (λ e. native e.0.now e.1 e.2 (map (λ word. word.now) e.3.now) e.4) FUNCTIONS.now
+
+abbrev pub list_natives : List Native
+list_natives = map (λ e. native e.0.now e.1 e.2 (map (λ word. word.now) e.3.now) e.4) LIST_METHODS.now
+
+abbrev pub dict_natives : List Native
+dict_natives = map (λ e. native e.0.now e.1 e.2 (map (λ word. word.now) e.3.now) e.4) DICT_METHODS.now
+
+abbrev pub tuple_natives : List Native
+tuple_natives = map (λ e. native e.0.now e.1 e.2 (map (λ word. word.now) e.3.now) e.4) TUPLE_METHODS.now
+
+abbrev pub str_natives : List Native
+str_natives = map (λ e. native e.0.now e.1 e.2 (map (λ word. word.now) e.3.now) e.4) STR_METHODS.now
+
+abbrev pub bytes_natives : List Native
+bytes_natives = map (λ e. native e.0.now e.1 e.2 (map (λ word. word.now) e.3.now) e.4) BYTES_METHODS.now
+
+abbrev pub int_natives : List Native
+int_natives = map (λ e. native e.0.now e.1 e.2 (map (λ word. word.now) e.3.now) e.4) INT_METHODS.now
+
+abbrev pub float_natives : List Native
+float_natives = map (λ e. native e.0.now e.1 e.2 (map (λ word. word.now) e.3.now) e.4) FLOAT_METHODS.now
+
+abbrev pub exception_natives : List Native
+exception_natives = map (λ e. native e.0.now e.1 e.2 (map (λ word. word.now) e.3.now) e.4) EXCEPTION_METHODS.now
 
 -- the functions and classes first, then the methods kind by kind; ints and truth values share one
 abbrev pub natives : List Native
@@ -40,35 +76,32 @@ before_methods kinds.Float = length (function_natives ++ list_natives ++ dict_na
 before_methods kinds.Exception = length (function_natives ++ list_natives ++ dict_natives ++ tuple_natives ++ str_natives ++ bytes_natives ++ int_natives ++ float_natives)
 before_methods _ = 0
 
--- ---- the part of a row that says how it is called
+-- ---- look-ups
 
-pub record Head : Type 0 where
-  pub name : List ℕ
-  pub sort : NativeSort
-  pub arguments : Arguments
-
-abbrev pub head : Native → Head
-head n = record { name = n.name; sort = n.sort; arguments = n.arguments }
+-- all that a row says
+abbrev pub Head : Type 0
+Head = Native
 
 abbrev pub row_head : NativeRow → Head
-row_head r = record { name = r.name.now; sort = r.sort; arguments = record { least = r.least; most = r.most; words = map (λ word. word.now) r.words.now; any_words = r.any_words } }
+row_head r =
+    record { name = r.name.now; sort = r.sort; arguments = record { least = r.least; most = r.most; words = map (λ word. word.now) r.words.now; any_words = r.any_words }; deed = r.deed }
 
 -- the place of the first of some rows with a name
-abbrev pub place_named : List Head → List ℕ → Option ℕ
+abbrev pub place_named : List Native → List ℕ → Option ℕ
 place_named [] name = None
-place_named (first ∷ heads) name = if bytes_eq name first.name then Some 0 else option_map suc (place_named heads name)
+place_named (first ∷ rows) name = if bytes_eq name first.name then Some 0 else option_map suc (place_named rows name)
 
 -- its number, where so many natives stand before the rows
-abbrev pub number_in : ℕ → List Head → List ℕ → Option ℕ
-number_in before heads name = option_map (λ place. before + place) (place_named heads name)
+abbrev pub number_in : ℕ → List Native → List ℕ → Option ℕ
+number_in before rows name = option_map (λ place. before + place) (place_named rows name)
 
 -- the number of a function or a class
 abbrev pub function_number : List ℕ → Option ℕ
-function_number name = number_in 0 (map head function_natives) name
+function_number name = number_in 0 function_natives name
 
 -- the number of a method, or of another attribute, of a kind
 abbrev pub method_number : Basic → List ℕ → Option ℕ
-method_number k name = number_in (before_methods k) (map head (methods_of k)) name
+method_number k name = number_in (before_methods k) (methods_of k) name
 
 abbrev pub native_head : ℕ → Option Head
-native_head number = slice_get (map head natives) number
+native_head number = slice_get natives number

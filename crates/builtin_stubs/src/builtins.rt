@@ -1,18 +1,18 @@
-//! Look-ups in the tables.
-ghost use Rattle.std.specs.Prelude.{◌≡◌, ◌≤◌, ◌+◌, length, map, option_map, slice_get};
-ghost use Rattle.std.specs.List.{list_any, flat_map};
+//! What the tables say, as calls.
+ghost use Rattle.std.specs.Prelude.{◌≡◌, map, option_map};
+ghost use Rattle.std.specs.List.{list_any};
 ghost use Rattle.std.specs.Str.{bytes_eq};
-ghost use Rattle.builtin_stubs.specs.Natives.{function_number, method_number, methods_of, before_methods, number_in, head, row_head, native_head};
-ghost use Rattle.builtin_stubs.specs.Operators.{op_kinds, answer};
+ghost use Rattle.type_terms.specs.View.{term_view};
+ghost use Rattle.builtin_stubs.specs.Kinds.{items_of, part_by, part_of, identity, classes_of, kind_of_term};
+ghost use Rattle.builtin_stubs.specs.Natives.{function_number, method_number, row_head, native_head};
+ghost use Rattle.builtin_stubs.specs.Operators.{op_kinds, unary_kinds, compare_kinds, answer};
 ghost use Rattle.builtin_stubs.specs.Outside.{outside_names};
 
-use crate::bytes_methods::{BYTES_METHODS, EXCEPTION_METHODS, FLOAT_METHODS, INT_METHODS};
-use crate::container_methods::{DICT_METHODS, LIST_METHODS, TUPLE_METHODS};
 use crate::functions::FUNCTIONS;
-use crate::operators::operate;
-use crate::str_methods::STR_METHODS;
-use crate::{Basic, NativeId, NativeRow, OpRow, outside};
-use place_ids::{BinOp, Id};
+use crate::look_ups::{before_methods, find_native, methods_of, native_at};
+use crate::{Basic, NativeId, NativeRow, OpRow, Part, Sameness, kinds, operators, outside};
+use place_ids::{BinOp, CompareOp, Id, UnaryOp};
+use type_terms::TypeTerm;
 
 /// The tables of what Python itself has.
 #[derive(Clone, Copy, Debug)]
@@ -23,7 +23,7 @@ impl Builtins {
     pub fn fun(&self, name: &str) -> Option<NativeId>
         ensures { result ≡ function_number name.now }
     {
-        find_native(0, &FUNCTIONS, name)
+        find_native(0, FUNCTIONS, name)
     }
 
     /// The number of a method, or of another attribute, of a kind of values.
@@ -33,11 +33,11 @@ impl Builtins {
         find_native(before_methods(kind), methods_of(kind), name)
     }
 
-    /// What an operator gives for two kinds of operands.
-    pub fn binary(&self, op: BinOp, left: Basic, right: Basic) -> OpRow
-        ensures { answer result ≡ op_kinds op left right }
+    /// The native under a number.
+    pub fn row(&self, id: NativeId) -> Option<NativeRow>
+        ensures { option_map row_head result ≡ native_head id }
     {
-        operate(op, left, right)
+        native_at(id.number() as usize)
     }
 
     /// Whether a builtin name is one whose value is not followed.
@@ -47,85 +47,66 @@ impl Builtins {
         outside::is_outside(name)
     }
 
-    /// How the native under a number is called.
-    pub fn row(&self, id: NativeId) -> Option<NativeRow>
-        ensures { option_map row_head result ≡ native_head id }
+    /// What an operator gives for two kinds of operands.
+    pub fn binary(&self, op: BinOp, left: Basic, right: Basic) -> OpRow
+        ensures { answer result ≡ op_kinds op left right }
     {
-        let groups: [&[NativeRow]; 9] = [
-            &FUNCTIONS,
-            &LIST_METHODS,
-            &DICT_METHODS,
-            &TUPLE_METHODS,
-            &STR_METHODS,
-            &BYTES_METHODS,
-            &INT_METHODS,
-            &FLOAT_METHODS,
-            &EXCEPTION_METHODS,
-        ];
-        row_in(&groups, id.number() as usize)
+        operators::operate(op, left, right)
     }
-}
 
-fn methods_of(kind: Basic) -> &'static [NativeRow]
-    ensures rows { map row_head result.now ≡ map head (methods_of kind) }
-    ensures few { length result.now ≤ 60 }
-{
-    match kind {
-        Basic::List => &LIST_METHODS,
-        Basic::Dict => &DICT_METHODS,
-        Basic::Tuple => &TUPLE_METHODS,
-        Basic::Str => &STR_METHODS,
-        Basic::Bytes => &BYTES_METHODS,
-        Basic::Int | Basic::Bool => &INT_METHODS,
-        Basic::Float => &FLOAT_METHODS,
-        Basic::Exception => &EXCEPTION_METHODS,
-        _ => &[],
+    /// What an operator gives for a kind of its one operand.
+    pub fn unary(&self, op: UnaryOp, kind: Basic) -> OpRow
+        ensures { answer result ≡ unary_kinds op kind }
+    {
+        operators::operate_on_one(op, kind)
     }
-}
 
-// How many natives stand before the methods of a kind.
-fn before_methods(kind: Basic) -> u32
-    ensures number { result ≡ before_methods kind }
-    ensures few { result ≤ 138 }
-{
-    match kind {
-        Basic::List => 59,
-        Basic::Dict => 70,
-        Basic::Tuple => 79,
-        Basic::Str => 81,
-        Basic::Bytes => 128,
-        Basic::Int | Basic::Bool => 136,
-        Basic::Float => 137,
-        Basic::Exception => 138,
-        _ => 0,
+    /// What a comparison gives for two kinds of operands.
+    pub fn compare(&self, op: CompareOp, left: Basic, right: Basic) -> OpRow
+        ensures { answer result ≡ compare_kinds op left right }
+    {
+        operators::compare(op, left, right)
     }
-}
 
-// The number of the first row with a name, where so many natives stand before the rows.
-fn find_native(before: u32, rows: &[NativeRow], name: &str) -> Option<NativeId>
-    requires { before + length rows.now ≤ 1000 }
-    ensures { result ≡ number_in before (map row_head rows.now) name.now }
-{
-    let mut number = before;
-    for row in rows {
-        if name == row.name {
-            return Some(NativeId::new(number));
-        }
-        number += 1;
+    /// What `is` tells of two values of which it is known what they are.
+    pub fn identity(&self, left: Basic, right: Basic) -> Sameness
+        ensures { result ≡ identity left right }
+    {
+        kinds::identity(left, right)
     }
-    None
-}
 
-// The row at a place of groups that stand one behind another.
-fn row_in(groups: &[&[NativeRow]], place: usize) -> Option<NativeRow>
-    ensures { option_map row_head result ≡ slice_get (flat_map (λ group. map row_head group.now) groups.now) place }
-{
-    let mut left = place;
-    for group in groups {
-        if left < group.len() {
-            return Some(group[left]);
-        }
-        left -= group.len();
+    /// What iterating a value of a kind gives. It is None where that is a fault.
+    pub fn items_of(&self, kind: Basic) -> Option<Part>
+        ensures { result ≡ items_of kind }
+    {
+        kinds::items_of(kind)
     }
-    None
+
+    /// What a container gives at an index of a kind. It is None where that is a fault.
+    pub fn part_by(&self, container: Basic, index: Basic) -> Option<Part>
+        ensures { result ≡ part_by container index }
+    {
+        kinds::part_by(container, index)
+    }
+
+    /// What a container gives at an index that may be anything. It is None where no index is taken.
+    pub fn part_of(&self, container: Basic) -> Option<Part>
+        ensures { result ≡ part_of container }
+    {
+        kinds::part_of(container)
+    }
+
+    /// The builtin classes that the values of a kind are instances of, but for `object`.
+    pub fn classes_of(&self, kind: Basic) -> &'static [&'static str]
+        ensures { map (λ name. name.now) result.now ≡ classes_of kind }
+    {
+        kinds::classes_of(kind)
+    }
+
+    /// The kind of the values of a declared type. Of a union, and of a type that says nothing, it is `Other`.
+    pub fn kind_of_type(&self, term: &TypeTerm) -> Basic
+        ensures { result ≡ kind_of_term (term_view term.now) }
+    {
+        kinds::kind_of_type(term)
+    }
 }

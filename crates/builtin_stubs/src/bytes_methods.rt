@@ -1,23 +1,26 @@
-//! The methods of bytes, numbers and exceptions.
-use crate::native::{NativeRow, NativeSort, takes, takes_any};
+//! The methods of bytes, numbers and exceptions (library reference, "Bytes and Bytearray Operations", "Numeric Types", "Built-in Exceptions").
+use crate::NativeSort::{Method, Value};
+use crate::Outcome::{NotFollowed, TupleOfAnything};
+use crate::entries::{any, gives, only, takes};
+use crate::native::Entry;
 
-pub(crate) static BYTES_METHODS: [NativeRow; 8] = [
-    takes_any!(Method, "decode"),
-    takes_any!(Method, "hex"),
-    takes_any!(Method, "startswith"),
-    takes_any!(Method, "endswith"),
-    takes_any!(Method, "split"),
-    takes_any!(Method, "join"),
-    takes_any!(Method, "strip"),
-    takes_any!(Method, "replace"),
+pub(crate) const BYTES_METHODS: &[Entry] = &[
+    ("decode", Method, any!(), &[], gives!(Str)),
+    ("hex", Method, any!(), &[], gives!(Str)),
+    ("startswith", Method, any!(), &[], gives!(Bool)),
+    ("endswith", Method, any!(), &[], gives!(Bool)),
+    ("split", Method, any!(), &[], only!(NotFollowed)),
+    ("join", Method, any!(), &[], only!(NotFollowed)),
+    ("strip", Method, any!(), &[], only!(NotFollowed)),
+    ("replace", Method, any!(), &[], only!(NotFollowed)),
 ];
 
-// Of ints and of truth values.
-pub(crate) static INT_METHODS: [NativeRow; 1] = [takes!(Method, "bit_length", 0, 0)];
+/// Of ints and of truth values.
+pub(crate) const INT_METHODS: &[Entry] = &[("bit_length", Method, takes!(0), &[], gives!(Int))];
 
-pub(crate) static FLOAT_METHODS: [NativeRow; 1] = [takes!(Method, "is_integer", 0, 0)];
+pub(crate) const FLOAT_METHODS: &[Entry] = &[("is_integer", Method, takes!(0), &[], gives!(Bool))];
 
-pub(crate) static EXCEPTION_METHODS: [NativeRow; 2] = [
-    takes!(Value, "args", 0, 0),
-    takes_any!(Method, "with_traceback"),
+pub(crate) const EXCEPTION_METHODS: &[Entry] = &[
+    ("args", Value, takes!(0), &[], only!(TupleOfAnything)),
+    ("with_traceback", Method, any!(), &[], only!(NotFollowed)),
 ];

@@ -1,6 +1,8 @@
 //! The row of a native, and the number that it has.
-ghost use Rattle.std.specs.Prelude.{ℕ};
+ghost use Rattle.std.specs.Prelude.{ℕ, ◌≡◌, map};
+ghost use Rattle.builtin_stubs.specs.Natives.{row_head, native};
 
+use crate::Deed;
 use place_ids::Id;
 use std::marker::Model;
 
@@ -37,7 +39,7 @@ pub enum NativeSort {
     Value,
 }
 
-/// A native and the arguments that it takes: how many by position, and which by name.
+/// A native, the arguments that it takes, by position and by name, and what it does.
 #[derive(Clone, Copy, Debug)]
 pub struct NativeRow {
     pub name: &'static str,
@@ -49,65 +51,37 @@ pub struct NativeRow {
     pub words: &'static [&'static str],
     /// Whether any argument may be given by name.
     pub any_words: bool,
+    pub deed: Deed,
 }
 
-// Any arguments, by position and by name.
-macro_rules! takes_any {
-    ($sort:ident, $name:literal) => {
-        NativeRow {
-            name: $name,
-            sort: NativeSort::$sort,
-            least: 0,
-            most: None,
-            words: &[],
-            any_words: true,
-        }
-    };
+/// How many arguments a native takes by position, and whether any may be given by name.
+#[derive(Clone, Copy, Debug)]
+pub(crate) struct Takes {
+    pub(crate) least: u32,
+    pub(crate) most: Option<u32>,
+    pub(crate) any_words: bool,
 }
 
-// From so many arguments by position on, and no other.
-macro_rules! takes_from {
-    ($sort:ident, $name:literal, $least:literal) => {
-        NativeRow {
-            name: $name,
-            sort: NativeSort::$sort,
-            least: $least,
-            most: None,
-            words: &[],
-            any_words: false,
-        }
-    };
-}
+/// A native as a table has it: the arguments that are given by name alone stand before the deed.
+pub(crate) type Entry = (
+    &'static str,
+    NativeSort,
+    Takes,
+    &'static [&'static str],
+    Deed,
+);
 
-// So many arguments by position, and those that are named.
-macro_rules! takes {
-    ($sort:ident, $name:literal, $least:literal, $most:literal $(, $word:literal)*) => {
-        NativeRow {
-            name: $name,
-            sort: NativeSort::$sort,
-            least: $least,
-            most: Some($most),
-            words: &[$($word),*],
-            any_words: false,
-        }
-    };
+pub(crate) fn row_of(entry: &Entry) -> NativeRow
+    ensures { row_head result ≡ native entry.now.0.now entry.now.1 entry.now.2 (map (λ word. word.now) entry.now.3.now) entry.now.4 }
+{
+    let (name, sort, takes, words, deed) = *entry;
+    NativeRow {
+        name,
+        sort,
+        least: takes.least,
+        most: takes.most,
+        words,
+        any_words: takes.any_words,
+        deed,
+    }
 }
-
-// So many arguments by position, and any by name.
-macro_rules! takes_words {
-    ($sort:ident, $name:literal, $least:literal, $most:literal) => {
-        NativeRow {
-            name: $name,
-            sort: NativeSort::$sort,
-            least: $least,
-            most: Some($most),
-            words: &[],
-            any_words: true,
-        }
-    };
-}
-
-pub(crate) use takes;
-pub(crate) use takes_any;
-pub(crate) use takes_from;
-pub(crate) use takes_words;

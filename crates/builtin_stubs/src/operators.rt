@@ -1,133 +1,152 @@
-//! What operators of two operands give.
-ghost use Rattle.std.specs.Prelude.{◌≡◌, map};
-ghost use Rattle.builtin_stubs.specs.Operators.{fits, op_rows, first_fit, op_kinds, answer, row_view};
+//! What operators give (language reference, "Binary arithmetic operations", "Shifting operations", "Binary bitwise operations",
+//! "The power operator", "Unary arithmetic and bitwise operations", "Comparisons").
+ghost use Rattle.std.specs.Prelude.{◌≡◌, map, option_map};
+ghost use Rattle.builtin_stubs.specs.Operators.{op_rows, unary_rows, compare_rows, op_kinds, unary_kinds, compare_kinds, answer};
 
-use crate::{Basic, OpRow};
-use place_ids::BinOp;
-
-/// What an operand has to be.
-#[derive(Clone, Copy, Debug, PartialEq, Eq)]
-pub(crate) enum Operand {
-    Truth,
-    /// An int or a truth value.
-    Whole,
-    /// A whole number or a float.
-    Number,
-    Text,
-    Binary,
-    /// A list.
-    Row,
-    /// A tuple.
-    Fixed,
-    Anything,
-}
+use crate::Basic::{Bool, Bytes, Float, Int, List, Str};
+use crate::Operand::{
+    Anything, Binary, Fixed, Mapping, Number, Row, Span, Text, Truth, Viewed, Whole,
+};
+use crate::operand::{first_of, first_of_two};
+use crate::{Basic, OpRow, Operand};
+use place_ids::{BinOp, CompareOp, UnaryOp};
 
 /// Two operands, and the kinds that come back.
-#[derive(Clone, Copy, Debug)]
-pub(crate) struct OperatorRow {
-    pub(crate) left: Operand,
-    pub(crate) right: Operand,
-    pub(crate) kinds: &'static [Basic],
-}
+pub(crate) type PairRow = (Operand, Operand, &'static [Basic]);
 
-macro_rules! gives {
-    ($left:ident, $right:ident, $($kind:ident),+) => {
-        OperatorRow {
-            left: Operand::$left,
-            right: Operand::$right,
-            kinds: &[$(Basic::$kind),+],
-        }
-    };
-}
+/// An operand, and the kinds that come back.
+pub(crate) type OneRow = (Operand, &'static [Basic]);
 
-static ADDITION: [OperatorRow; 6] = [
-    gives!(Whole, Whole, Int),
-    gives!(Number, Number, Float),
-    gives!(Text, Text, Str),
-    gives!(Binary, Binary, Bytes),
-    gives!(Row, Row, List),
-    gives!(Fixed, Fixed, Tuple),
+pub(crate) const ADDITION: &[PairRow] = &[
+    (Whole, Whole, &[Int]),
+    (Number, Number, &[Float]),
+    (Text, Text, &[Str]),
+    (Binary, Binary, &[Bytes]),
+    (Row, Row, &[List]),
+    (Fixed, Fixed, &[Basic::Tuple]),
 ];
 
-static ARITHMETIC: [OperatorRow; 2] = [gives!(Whole, Whole, Int), gives!(Number, Number, Float)];
+/// Numbers are whole or floats, and a float makes the result one.
+pub(crate) const ARITHMETIC: &[PairRow] = &[(Whole, Whole, &[Int]), (Number, Number, &[Float])];
 
-static MULTIPLICATION: [OperatorRow; 10] = [
-    gives!(Whole, Whole, Int),
-    gives!(Number, Number, Float),
-    gives!(Text, Whole, Str),
-    gives!(Whole, Text, Str),
-    gives!(Binary, Whole, Bytes),
-    gives!(Whole, Binary, Bytes),
-    gives!(Row, Whole, List),
-    gives!(Whole, Row, List),
-    gives!(Fixed, Whole, Tuple),
-    gives!(Whole, Fixed, Tuple),
+pub(crate) const MULTIPLICATION: &[PairRow] = &[
+    (Whole, Whole, &[Int]),
+    (Number, Number, &[Float]),
+    (Text, Whole, &[Str]),
+    (Whole, Text, &[Str]),
+    (Binary, Whole, &[Bytes]),
+    (Whole, Binary, &[Bytes]),
+    (Row, Whole, &[List]),
+    (Whole, Row, &[List]),
+    (Fixed, Whole, &[Basic::Tuple]),
+    (Whole, Fixed, &[Basic::Tuple]),
 ];
 
-static DIVISION: [OperatorRow; 1] = [gives!(Number, Number, Float)];
+pub(crate) const DIVISION: &[PairRow] = &[(Number, Number, &[Float])];
 
-static REMAINDER: [OperatorRow; 4] = [
-    gives!(Whole, Whole, Int),
-    gives!(Number, Number, Float),
-    gives!(Text, Anything, Str),
-    gives!(Binary, Anything, Bytes),
+pub(crate) const REMAINDER: &[PairRow] = &[
+    (Whole, Whole, &[Int]),
+    (Number, Number, &[Float]),
+    (Text, Anything, &[Str]),
+    (Binary, Anything, &[Bytes]),
 ];
 
-static POWER: [OperatorRow; 2] = [
-    gives!(Whole, Whole, Int, Float),
-    gives!(Number, Number, Float),
-];
+/// A whole number to a negative power is a float.
+pub(crate) const POWER: &[PairRow] = &[(Whole, Whole, &[Int, Float]), (Number, Number, &[Float])];
 
-static SHIFTS: [OperatorRow; 1] = [gives!(Whole, Whole, Int)];
+pub(crate) const SHIFTS: &[PairRow] = &[(Whole, Whole, &[Int])];
 
-static BITWISE: [OperatorRow; 2] = [gives!(Truth, Truth, Bool), gives!(Whole, Whole, Int)];
+pub(crate) const BITWISE: &[PairRow] = &[(Truth, Truth, &[Bool]), (Whole, Whole, &[Int])];
 
-fn rows_of(op: BinOp) -> &'static [OperatorRow]
-    ensures { map row_view result.now ≡ op_rows op }
+fn rows_of(op: BinOp) -> &'static [PairRow]
+    ensures { map (λ r. (r.0, r.1, r.2.now)) result.now ≡ op_rows op }
 {
     match op {
-        BinOp::Add => &ADDITION,
-        BinOp::Sub | BinOp::FloorDiv => &ARITHMETIC,
-        BinOp::Mul => &MULTIPLICATION,
-        BinOp::Div => &DIVISION,
-        BinOp::Mod => &REMAINDER,
+        BinOp::Add => ADDITION,
+        BinOp::Sub | BinOp::FloorDiv => ARITHMETIC,
+        BinOp::Mul => MULTIPLICATION,
+        BinOp::Div => DIVISION,
+        BinOp::Mod => REMAINDER,
         BinOp::MatMul => &[],
-        BinOp::Pow => &POWER,
-        BinOp::ShiftLeft | BinOp::ShiftRight => &SHIFTS,
-        BinOp::BitAnd | BinOp::BitOr | BinOp::BitXor => &BITWISE,
+        BinOp::Pow => POWER,
+        BinOp::ShiftLeft | BinOp::ShiftRight => SHIFTS,
+        BinOp::BitAnd | BinOp::BitOr | BinOp::BitXor => BITWISE,
     }
 }
 
-fn fits(operand: Operand, kind: Basic) -> bool
-    ensures { result ≡ fits operand kind }
+/// The signs `+` and `-`.
+pub(crate) const SIGNS: &[OneRow] = &[(Whole, &[Int]), (Number, &[Float])];
+
+pub(crate) const INVERSION: &[OneRow] = &[(Whole, &[Int])];
+
+fn signs_of(op: UnaryOp) -> &'static [OneRow]
+    ensures { map (λ r. (r.0, r.1.now)) result.now ≡ unary_rows op }
 {
-    match operand {
-        Operand::Truth => matches!(kind, Basic::Bool),
-        Operand::Whole => matches!(kind, Basic::Bool | Basic::Int),
-        Operand::Number => matches!(kind, Basic::Bool | Basic::Int | Basic::Float),
-        Operand::Text => matches!(kind, Basic::Str),
-        Operand::Binary => matches!(kind, Basic::Bytes),
-        Operand::Row => matches!(kind, Basic::List),
-        Operand::Fixed => matches!(kind, Basic::Tuple),
-        Operand::Anything => true,
+    match op {
+        UnaryOp::Plus | UnaryOp::Minus => SIGNS,
+        UnaryOp::Invert => INVERSION,
     }
 }
 
-// The row that fits two kinds.
-fn find_row(rows: &[OperatorRow], left: Basic, right: Basic) -> OpRow
-    ensures { answer result ≡ first_fit (map row_view rows.now) left right }
+pub(crate) const ORDER: &[PairRow] = &[
+    (Number, Number, &[Bool]),
+    (Text, Text, &[Bool]),
+    (Binary, Binary, &[Bool]),
+    (Row, Row, &[Bool]),
+    (Fixed, Fixed, &[Bool]),
+];
+
+/// Of `==` and `is`.
+pub(crate) const EQUALITY: &[PairRow] = &[(Anything, Anything, &[Bool])];
+
+/// Of `in`: what is looked for, and what it is looked for in.
+pub(crate) const MEMBERSHIP: &[PairRow] = &[
+    (Anything, Row, &[Bool]),
+    (Anything, Mapping, &[Bool]),
+    (Anything, Fixed, &[Bool]),
+    (Anything, Viewed, &[Bool]),
+    (Anything, Span, &[Bool]),
+    (Text, Text, &[Bool]),
+    (Binary, Binary, &[Bool]),
+    (Whole, Binary, &[Bool]),
+];
+
+fn comparisons_of(op: CompareOp) -> &'static [PairRow]
+    ensures { map (λ r. (r.0, r.1, r.2.now)) result.now ≡ compare_rows op }
 {
-    for row in rows {
-        if fits(row.left, left) && fits(row.right, right) {
-            return OpRow::Kinds(row.kinds);
-        }
+    match op {
+        CompareOp::Less | CompareOp::Greater | CompareOp::LessEq | CompareOp::GreaterEq => ORDER,
+        CompareOp::Equal | CompareOp::NotEqual | CompareOp::Is | CompareOp::IsNot => EQUALITY,
+        CompareOp::Within | CompareOp::NotWithin => MEMBERSHIP,
     }
-    OpRow::Fault
 }
 
-/// What an operator gives.
+fn answer_of(kinds: Option<&'static [Basic]>) -> OpRow
+    ensures { answer result ≡ option_map (λ ks. ks.now) kinds.entry }
+{
+    match kinds {
+        Some(kinds) => OpRow::Kinds(kinds),
+        None => OpRow::Fault,
+    }
+}
+
+/// What an operator of two operands gives.
 pub(crate) fn operate(op: BinOp, left: Basic, right: Basic) -> OpRow
     ensures { answer result ≡ op_kinds op left right }
 {
-    find_row(rows_of(op), left, right)
+    answer_of(first_of_two(rows_of(op), left, right))
+}
+
+/// What an operator of one operand gives.
+pub(crate) fn operate_on_one(op: UnaryOp, kind: Basic) -> OpRow
+    ensures { answer result ≡ unary_kinds op kind }
+{
+    answer_of(first_of(signs_of(op), kind))
+}
+
+/// What a comparison gives.
+pub(crate) fn compare(op: CompareOp, left: Basic, right: Basic) -> OpRow
+    ensures { answer result ≡ compare_kinds op left right }
+{
+    answer_of(first_of_two(comparisons_of(op), left, right))
 }

@@ -4,7 +4,8 @@ ghost use Rattle.std.specs.List.{list_any};
 ghost use Rattle.std.specs.Str.{bytes_eq};
 ghost use Rattle.builtin_stubs.specs.Outside.{outside_names};
 
-static OUTSIDE: [&str; 48] = [
+/// Library reference, "Built-in Functions".
+pub(crate) const OUTSIDE: &[&str] = &[
     "abs",
     "all",
     "any",
@@ -59,7 +60,7 @@ static OUTSIDE: [&str; 48] = [
 pub(crate) fn is_outside(name: &str) -> bool
     ensures { result ≡ list_any (bytes_eq name.now) outside_names }
 {
-    is_one_of(name, &OUTSIDE)
+    is_one_of(name, OUTSIDE)
 }
 
 fn is_one_of(name: &str, names: &[&str]) -> bool

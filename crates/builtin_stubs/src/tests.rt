@@ -1,192 +1,82 @@
 //! The tables, row by row.
 use super::*;
-use place_ids::{BinOp, Id};
+use place_ids::{BinOp, CompareOp, Id, Text, UnaryOp};
 use std::test::Fail;
+use type_terms::TypeTerm;
 
-fn number(id: Option<NativeId>) -> Option<u32> {
-    id.map(|id| id.number())
+// Calls without their contracts, so that what a test asserts isn't computed in its proof too.
+
+fn fun(name: &str) -> Option<u32> {
+    Builtins.fun(name).map(|id| id.number())
 }
 
-// Whether the functions and classes of some names have the numbers from one on.
-fn are_functions(names: &[&str], first: u32) -> bool {
-    let mut wanted = first;
-    for name in names {
-        if number(Builtins.fun(name)) != Some(wanted) {
-            return false;
-        }
-        wanted = wanted.wrapping_add(1);
-    }
-    true
+fn method(kind: Basic, name: &str) -> Option<u32> {
+    Builtins.attr(kind, name).map(|id| id.number())
 }
 
-// Whether the methods of a kind have the numbers from one on.
-fn are_methods(kind: Basic, names: &[&str], first: u32) -> bool {
-    let mut wanted = first;
-    for name in names {
-        if number(Builtins.attr(kind, name)) != Some(wanted) {
-            return false;
-        }
-        wanted = wanted.wrapping_add(1);
-    }
-    true
+fn unary(op: UnaryOp, kind: Basic) -> OpRow {
+    Builtins.unary(op, kind)
+}
+
+fn compare(op: CompareOp, left: Basic, right: Basic) -> OpRow {
+    Builtins.compare(op, left, right)
+}
+
+fn identity(left: Basic, right: Basic) -> Sameness {
+    Builtins.identity(left, right)
+}
+
+fn items(kind: Basic) -> Option<Part> {
+    Builtins.items_of(kind)
+}
+
+fn part_by(container: Basic, index: Basic) -> Option<Part> {
+    Builtins.part_by(container, index)
+}
+
+fn part_of(container: Basic) -> Option<Part> {
+    Builtins.part_of(container)
+}
+
+fn classes(kind: Basic) -> &'static [&'static str] {
+    Builtins.classes_of(kind)
+}
+
+fn kind_of(term: &TypeTerm) -> Basic {
+    Builtins.kind_of_type(term)
+}
+
+fn outside(name: &str) -> bool {
+    Builtins.is_outside(name)
 }
 
 #[test]
 fn functions_and_classes_have_their_numbers(rt: HostRuntime) {
-    let first = [
-        "print",
-        "input",
-        "len",
-        "ord",
-        "repr",
-        "chr",
-        "isinstance",
-        "sorted",
-        "min",
-        "max",
-        "enumerate",
-        "zip",
-        "list",
-        "tuple",
-        "dict",
-        "str",
-        "int",
-        "float",
-        "bytes",
-        "bool",
-        "range",
-        "object",
-    ];
-    assert!(rt; are_functions(&first, 0));
-    let faults = [
-        "BaseException",
-        "SystemExit",
-        "KeyboardInterrupt",
-        "GeneratorExit",
-        "Exception",
-        "ArithmeticError",
-        "AssertionError",
-        "AttributeError",
-        "EOFError",
-        "ImportError",
-        "LookupError",
-        "MemoryError",
-        "NameError",
-        "OSError",
-        "RuntimeError",
-        "StopIteration",
-        "TypeError",
-        "ValueError",
-        "OverflowError",
-        "ZeroDivisionError",
-        "ModuleNotFoundError",
-        "IndexError",
-        "KeyError",
-        "UnboundLocalError",
-        "FileExistsError",
-        "FileNotFoundError",
-        "PermissionError",
-        "TimeoutError",
-        "ConnectionError",
-        "NotImplementedError",
-        "RecursionError",
-        "UnicodeError",
-        "UnicodeDecodeError",
-        "UnicodeEncodeError",
-    ];
-    assert!(rt; are_functions(&faults, 22));
-    assert!(rt; are_functions(&["base_init", "__name__", "__file__"], 56));
-    assert_eq!(rt; number(Builtins.fun("append")), None);
-    assert_eq!(rt; number(Builtins.fun("abs")), None);
+    assert_eq!(rt; fun("print"), Some(0));
+    assert_eq!(rt; fun("list"), Some(12));
+    assert_eq!(rt; fun("BaseException"), Some(22));
+    assert_eq!(rt; fun("KeyError"), Some(44));
+    assert_eq!(rt; fun("UnicodeEncodeError"), Some(55));
+    assert_eq!(rt; fun("base_init"), Some(56));
+    assert_eq!(rt; fun("__file__"), Some(58));
+    assert_eq!(rt; fun("append"), None);
+    assert_eq!(rt; fun("abs"), None);
 }
 
 #[test]
 fn methods_have_their_numbers(rt: HostRuntime) {
-    let lists = [
-        "append", "insert", "extend", "pop", "remove", "clear", "reverse", "sort", "index",
-        "count", "copy",
-    ];
-    assert!(rt; are_methods(Basic::List, &lists, 59));
-    let dicts = [
-        "get",
-        "pop",
-        "setdefault",
-        "update",
-        "keys",
-        "values",
-        "items",
-        "clear",
-        "copy",
-    ];
-    assert!(rt; are_methods(Basic::Dict, &dicts, 70));
-    assert!(rt; are_methods(Basic::Tuple, &["index", "count"], 79));
-    let texts = [
-        "capitalize",
-        "casefold",
-        "center",
-        "expandtabs",
-        "format",
-        "format_map",
-        "join",
-        "ljust",
-        "lower",
-        "lstrip",
-        "removeprefix",
-        "removesuffix",
-        "replace",
-        "rjust",
-        "rstrip",
-        "strip",
-        "swapcase",
-        "title",
-        "translate",
-        "upper",
-        "zfill",
-        "count",
-        "find",
-        "index",
-        "rfind",
-        "rindex",
-        "endswith",
-        "startswith",
-        "isalnum",
-        "isalpha",
-        "isascii",
-        "isdecimal",
-        "isdigit",
-        "isidentifier",
-        "islower",
-        "isnumeric",
-        "isprintable",
-        "isspace",
-        "istitle",
-        "isupper",
-        "split",
-        "rsplit",
-        "splitlines",
-        "partition",
-        "rpartition",
-        "encode",
-        "maketrans",
-    ];
-    assert!(rt; are_methods(Basic::Str, &texts, 81));
-    let bytes = [
-        "decode",
-        "hex",
-        "startswith",
-        "endswith",
-        "split",
-        "join",
-        "strip",
-        "replace",
-    ];
-    assert!(rt; are_methods(Basic::Bytes, &bytes, 128));
-    assert!(rt; are_methods(Basic::Int, &["bit_length"], 136));
-    assert!(rt; are_methods(Basic::Bool, &["bit_length"], 136));
-    assert!(rt; are_methods(Basic::Float, &["is_integer"], 137));
-    assert!(rt; are_methods(Basic::Exception, &["args", "with_traceback"], 138));
-    assert_eq!(rt; number(Builtins.attr(Basic::Tuple, "append")), None);
-    assert_eq!(rt; number(Builtins.attr(Basic::View, "index")), None);
+    assert_eq!(rt; method(Basic::List, "append"), Some(59));
+    assert_eq!(rt; method(Basic::Dict, "get"), Some(70));
+    assert_eq!(rt; method(Basic::Tuple, "index"), Some(79));
+    assert_eq!(rt; method(Basic::Str, "capitalize"), Some(81));
+    assert_eq!(rt; method(Basic::Str, "maketrans"), Some(127));
+    assert_eq!(rt; method(Basic::Bytes, "decode"), Some(128));
+    assert_eq!(rt; method(Basic::Int, "bit_length"), Some(136));
+    assert_eq!(rt; method(Basic::Bool, "bit_length"), Some(136));
+    assert_eq!(rt; method(Basic::Float, "is_integer"), Some(137));
+    assert_eq!(rt; method(Basic::Exception, "args"), Some(138));
+    assert_eq!(rt; method(Basic::Tuple, "append"), None);
+    assert_eq!(rt; method(Basic::View, "index"), None);
 }
 
 // How a row is called: its sort, the bounds by position, how many names it has, and whether it takes any name.
@@ -313,54 +203,135 @@ fn texts_and_lists_are_joined_and_repeated(rt: HostRuntime) {
 fn names_outside_are_told(rt: HostRuntime) {
     let names = [
         "abs",
-        "all",
-        "any",
-        "ascii",
-        "bin",
-        "breakpoint",
-        "bytearray",
-        "callable",
-        "classmethod",
-        "compile",
-        "complex",
-        "delattr",
-        "dir",
-        "divmod",
-        "eval",
-        "exec",
-        "filter",
-        "format",
-        "frozenset",
-        "getattr",
-        "globals",
-        "hasattr",
         "hash",
-        "help",
-        "hex",
-        "id",
-        "iter",
-        "issubclass",
-        "locals",
-        "map",
-        "memoryview",
-        "next",
-        "oct",
         "open",
-        "pow",
-        "property",
-        "reversed",
-        "round",
-        "set",
-        "setattr",
-        "slice",
-        "staticmethod",
-        "sum",
-        "type",
         "vars",
         "IOError",
         "__import__",
         "__doc__",
     ];
-    assert!(rt; names.iter().all(|name| Builtins.is_outside(name)));
-    assert!(rt; !Builtins.is_outside("print"));
+    assert!(rt; names.iter().all(|name| outside(name)));
+    assert!(rt; !outside("print"));
+}
+
+fn deed(kind: Basic, name: &str) -> Option<Deed> {
+    Some(Builtins.row(Builtins.attr(kind, name)?)?.deed)
+}
+
+fn first_effect(kind: Basic, name: &str) -> Option<Effect> {
+    deed(kind, name)?.effects().at(0)
+}
+
+fn second_effect(kind: Basic, name: &str) -> Option<Effect> {
+    deed(kind, name)?.effects().at(1)
+}
+
+fn enters(place: Place, part: Part) -> Option<Effect> {
+    Some(Effect { place, part })
+}
+
+fn outcome(kind: Basic, name: &str) -> Option<Outcome> {
+    Some(deed(kind, name)?.outcome())
+}
+
+#[test]
+fn methods_of_lists_say_what_they_do(rt: HostRuntime) {
+    let none = Some(Outcome::Gives(Parts::One(Part::Kind(Basic::NoneKind))));
+    let argument = enters(Place::Elements, Part::Argument(0));
+    assert_eq!(rt; first_effect(Basic::List, "append"), argument);
+    assert_eq!(rt; second_effect(Basic::List, "append"), None);
+    assert_eq!(rt; outcome(Basic::List, "append"), none);
+    let later = enters(Place::Elements, Part::Argument(1));
+    assert_eq!(rt; first_effect(Basic::List, "insert"), later);
+    assert_eq!(rt; outcome(Basic::List, "insert"), none);
+    let items = enters(Place::Elements, Part::Items(0));
+    assert_eq!(rt; first_effect(Basic::List, "extend"), items);
+    let elements = Parts::One(Part::OwnElements);
+    assert_eq!(rt; outcome(Basic::List, "pop"), Some(Outcome::Gives(elements)));
+    assert_eq!(rt;
+        outcome(Basic::List, "copy"),
+        Some(Outcome::NewList(elements))
+    );
+    assert_eq!(rt; first_effect(Basic::List, "clear"), None);
+}
+
+#[test]
+fn methods_of_dicts_say_what_they_do(rt: HostRuntime) {
+    let value = Part::OwnValues;
+    let got = Outcome::Gives(Parts::Two(value, Part::ArgumentOrNone(1)));
+    assert_eq!(rt; outcome(Basic::Dict, "get"), Some(got));
+    let given = Outcome::Gives(Parts::Two(value, Part::Argument(1)));
+    assert_eq!(rt; outcome(Basic::Dict, "pop"), Some(given));
+    assert_eq!(rt; outcome(Basic::Dict, "setdefault"), Some(given));
+    let key = enters(Place::Keys, Part::Argument(0));
+    assert_eq!(rt; first_effect(Basic::Dict, "setdefault"), key);
+    let default = enters(Place::Values, Part::Argument(1));
+    assert_eq!(rt; second_effect(Basic::Dict, "setdefault"), default);
+    let keys = enters(Place::Keys, Part::Keys(0));
+    assert_eq!(rt; first_effect(Basic::Dict, "update"), keys);
+    let values = enters(Place::Values, Part::Values(0));
+    assert_eq!(rt; second_effect(Basic::Dict, "update"), values);
+    let views = Outcome::View(Parts::One(Part::OwnKeys));
+    assert_eq!(rt; outcome(Basic::Dict, "keys"), Some(views));
+    assert_eq!(rt; Parts::Two(value, Part::OwnKeys).at(1), Some(Part::OwnKeys));
+    assert_eq!(rt; Parts::One(value).at(1), None);
+}
+
+const FAULT: OpRow = OpRow::Fault;
+
+#[test]
+fn signs_and_comparisons_give_by_kinds(rt: HostRuntime) {
+    assert_eq!(rt; unary(UnaryOp::Minus, Basic::Bool), OpRow::Kinds(INT));
+    assert_eq!(rt; unary(UnaryOp::Plus, Basic::Float), OpRow::Kinds(FLOAT));
+    assert_eq!(rt; unary(UnaryOp::Invert, Basic::Float), FAULT);
+    let (yes, less) = (OpRow::Kinds(BOOL), CompareOp::Less);
+    assert_eq!(rt; compare(less, Basic::Bool, Basic::Float), yes);
+    assert_eq!(rt; compare(less, Basic::Str, Basic::Str), yes);
+    assert_eq!(rt; compare(less, Basic::Int, Basic::Str), FAULT);
+    assert_eq!(rt; compare(less, Basic::Dict, Basic::Dict), FAULT);
+    assert_eq!(rt; compare(CompareOp::Equal, Basic::Int, Basic::Other), yes);
+    let within = CompareOp::Within;
+    assert_eq!(rt; compare(within, Basic::Other, Basic::View), yes);
+    assert_eq!(rt; compare(within, Basic::Int, Basic::Bytes), yes);
+    assert_eq!(rt; compare(within, Basic::Int, Basic::Str), FAULT);
+    assert_eq!(rt; compare(within, Basic::Str, Basic::Int), FAULT);
+    let none = Basic::NoneKind;
+    assert_eq!(rt; identity(none, none), Sameness::Same);
+    assert_eq!(rt; identity(Basic::Int, none), Sameness::Different);
+    assert_eq!(rt; identity(Basic::Bool, Basic::Bool), Sameness::AsTruths);
+    assert_eq!(rt; identity(Basic::Int, Basic::Int), Sameness::Unknown);
+}
+
+#[test]
+fn containers_give_by_kinds(rt: HostRuntime) {
+    let element = Some(Part::OwnElements);
+    assert_eq!(rt; items(Basic::Tuple), element);
+    assert_eq!(rt; items(Basic::Dict), Some(Part::OwnKeys));
+    assert_eq!(rt; items(Basic::Bytes), Some(Part::Kind(Basic::Int)));
+    assert_eq!(rt; items(Basic::Exception), None);
+    assert_eq!(rt; part_by(Basic::List, Basic::Bool), element);
+    assert_eq!(rt; part_by(Basic::List, Basic::Str), None);
+    assert_eq!(rt; part_by(Basic::Dict, Basic::Tuple), Some(Part::OwnValues));
+    assert_eq!(rt; part_by(Basic::Dict, Basic::List), None);
+    assert_eq!(rt; part_of(Basic::Str), Some(Part::Kind(Basic::Str)));
+    assert_eq!(rt; part_of(Basic::View), None);
+    let truth = classes(Basic::Bool);
+    assert!(rt; truth.iter().any(|class| *class == "int"));
+    assert_eq!(rt; truth.len(), 2);
+    assert_eq!(rt; classes(Basic::Other).len(), 0);
+}
+
+#[test]
+fn declared_types_have_kinds(rt: HostRuntime) -> Result<(), Fail> {
+    let mut class = Text::new(rt.alloc());
+    class.push(b"KeyError")?;
+    let error = TypeTerm::Class(class);
+    assert_eq!(rt; kind_of(&error), Basic::Exception);
+    let mut other = Text::new(rt.alloc());
+    other.push(b"geo.Point")?;
+    assert_eq!(rt; kind_of(&TypeTerm::Class(other)), Basic::Other);
+    assert_eq!(rt; kind_of(&TypeTerm::NoneTerm), Basic::NoneKind);
+    let items = Box::new(rt.alloc(), TypeTerm::Any)?;
+    assert_eq!(rt; kind_of(&TypeTerm::TupleOf(items)), Basic::Tuple);
+    Ok(())
 }

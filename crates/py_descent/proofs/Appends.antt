@@ -1,7 +1,7 @@
 -- Lists of the tree, one behind the other.
 use Rattle.std.proofs.Common.{◌≡◌, ℕ, List, [], ◌∷◌, ◌++◌, Option, refl, ap, sym, append_assoc}
 use Rattle.py_tree.specs.Tree.{Expr, Exprs, no_exprs, expr, Args, no_args, arg, Pairs, no_pairs, pair, Stmt, Stmts, no_stmts, stmt, Arms, no_arms, arm, Handlers, no_handlers, handler, Member, Members, no_members, member}
-use Rattle.py_tree.specs.Statements.{then_all}
+use Rattle.py_grammar.specs.Statements.{then_all}
 use Rattle.py_descent.specs.Bodies.{and_expr, and_arg, and_pair, and_stmt, and_arm, and_handler, and_member}
 
 -- ---- Expressions, arguments and pairs

@@ -8,10 +8,10 @@ use Rattle.py_tokens.specs.declared.token.Op.{Op}
 use Rattle.py_tokens.specs.declared.token.Op.TheVariants as op
 use Rattle.place_ids.specs.declared.operators.UnaryOp.{UnaryOp}
 use Rattle.py_tree.specs.Tree.{Expr, Exprs}
-use Rattle.py_tree.specs.Cursor.{Cursor, next, past, Begins, BeginsOp, BeginsWord}
-use Rattle.py_tree.specs.Operators.{IsUnary, unary_plus, unary_minus, unary_invert}
-use Rattle.py_tree.specs.Expressions
-use Rattle.py_tree.specs.Expressions.{AreStrs, strs_one, strs_more, AreOctets, octets_one, octets_more, IsTest, test_or, test_choice, IsOr, or_and, or_or, IsAnd, and_not, and_and, IsNot, not_compare, not_not, IsCompare, compare_one, compare_two, IsOperation, operation_factor, operation_next, operation_binary, IsFactor, factor_power, factor_unary, IsPower, power_primary, power_pow, IsPrimary, primary_atom, primary_attr, primary_call, primary_item, primary_slice, IsAtom, atom_name, atom_int, atom_float, atom_strs, atom_octets, atom_none, atom_true, atom_false, atom_unit, atom_group, atom_empty_list, atom_list, atom_dict, atom_super, AreTests, tests_last, tests_comma, tests_more, IsTests, tests_one, tests_single, tests_tuple}
+use Rattle.py_grammar.specs.Cursor.{Cursor, next, past, Begins, BeginsOp, BeginsWord}
+use Rattle.py_grammar.specs.Operators.{IsUnary, unary_plus, unary_minus, unary_invert}
+use Rattle.py_grammar.specs.Expressions
+use Rattle.py_grammar.specs.Expressions.{AreStrs, strs_one, strs_more, AreOctets, octets_one, octets_more, IsTest, test_or, test_choice, IsOr, or_and, or_or, IsAnd, and_not, and_and, IsNot, not_compare, not_not, IsCompare, compare_one, compare_two, IsOperation, operation_factor, operation_next, operation_binary, IsFactor, factor_power, factor_unary, IsPower, power_primary, power_pow, IsPrimary, primary_atom, primary_attr, primary_call, primary_item, primary_slice, IsAtom, atom_name, atom_int, atom_float, atom_strs, atom_octets, atom_none, atom_true, atom_false, atom_unit, atom_group, atom_empty_list, atom_list, atom_dict, atom_super, AreTests, tests_last, tests_comma, tests_more, IsTests, tests_one, tests_single, tests_tuple}
 use Rattle.py_descent.specs.Codes.{symbol, keyword, at}
 use Rattle.py_descent.specs.Programs.{said}
 use Rattle.py_descent.specs.Takings.{unary_in, begins_in, begins_op, begins_test}

@@ -1,7 +1,7 @@
 -- How a run of a program goes, step by step, to what it gives.
 use Rattle.std.proofs.Common.{◌≡◌, ℕ, ◌<◌, ◌||◌, Bool, true, false, nat_lt, if◌then◌else◌, Option, Some, None, refl, sym, ap, ◌∙◌, subst, arith}
 use Rattle.std.proofs.lemmas.Bool.Decides.{nat_tests}
-use Rattle.py_tree.specs.Cursor.{Cursor, past, with_site, with_fun, with_class, within}
+use Rattle.py_grammar.specs.Cursor.{Cursor, past, with_site, with_fun, with_class, within}
 use Rattle.py_descent.specs.Codes.{Mark, at}
 use Rattle.py_descent.specs.Goals.{Goal, Value, rank}
 use Rattle.py_descent.specs.Programs.{Answer, gives, refuses, Program, give, refuse, reading, choose, eat, take, site, fun_id, class_id, inside, call as look, step, bind, said, on_said, room, exec}

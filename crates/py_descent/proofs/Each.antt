@@ -1,7 +1,7 @@
 -- What each goal unfolds to, one lemma a goal.
 use Rattle.std.proofs.Common.{◌≡◌, ℕ, Bool, false, List}
 use Rattle.py_tree.specs.Tree.{Expr, Exprs, Bound, Args, Pairs, ImportPart, FromPart, Param, Stmts, Arms, Handlers, Members}
-use Rattle.py_tree.specs.Cursor.{Cursor}
+use Rattle.py_grammar.specs.Cursor.{Cursor}
 use Rattle.py_descent.specs.Goals.{rank, name, plain_name, dotted, dots, annotation, parts, part, items, item, hint, result, strings, octets, literal, test, disjunction, conjunction, inversion, comparison, compare_operator, factor, power, primary, atom, tests, choice, disjunctions, conjunctions, trailers, operation, operations, call_rest, subscript, slice, bounds, stride, arguments, argument, variable, super_rest, group, list_display, dict_display, pairs, tests_after, more_tests, import_part, imports, from_part, froms, return_rest, raise_rest, assert_rest, from_rest, assignment, assigned, annotated, simple_kind, simple, line, param, params, base, function, definition, class_rest, class_member, entry, class_body, entries, for_targets, more_targets, if_rest, while_rest, for_rest, try_rest, else_rest, caught, compound, block, elifs, handlers, statement, statements}
 use Rattle.py_descent.specs.Programs.{exec}
 use Rattle.py_descent.specs.Bodies.{body}

@@ -3,10 +3,10 @@ use Rattle.std.proofs.Common.{◌≡◌, ℕ, suc, ◌≤◌, true, ◌++◌, No
 use Rattle.std.specs.Option.{is_some}
 use Rattle.py_tokens.specs.declared.token.Keyword.TheVariants as word
 use Rattle.py_tokens.specs.declared.token.Op.TheVariants as op
-use Rattle.py_tree.specs.Cursor.{Cursor, BeginsOp, BeginsWord, past}
-use Rattle.py_tree.specs.Names.{text_of, is_super, IsName}
-use Rattle.py_tree.specs.Expressions.{IsTest, IsOr, IsAnd, IsNot, IsCompare, IsOperation, IsFactor, IsPower, IsPrimary, IsBound, AreArgs, IsArg, IsAtom, ArePairs, AreTests, IsTests}
-use Rattle.py_tree.specs.Statements.{AreDots, IsDotted, IsAnnotation, IsPart, AreItems, IsItem, IsHint, IsResult, IsSingle, IsTargets, IsImport, AreImports, IsFrom, IsSimple, IsLine, IsLiteral, IsParam, AreParams, IsBase, IsMember, then_all, IsBlock, IsStatement, AreStatements, IsCompound, AreElifs, IsElse, AreHandlers, IsCaught, IsFunction, IsClass, IsBody, IsEntry, AreEntries}
+use Rattle.py_grammar.specs.Cursor.{Cursor, BeginsOp, BeginsWord, past}
+use Rattle.py_grammar.specs.Names.{text_of, is_super, IsName}
+use Rattle.py_grammar.specs.Expressions.{IsTest, IsOr, IsAnd, IsNot, IsCompare, IsOperation, IsFactor, IsPower, IsPrimary, IsBound, AreArgs, IsArg, IsAtom, ArePairs, AreTests, IsTests}
+use Rattle.py_grammar.specs.Statements.{AreDots, IsDotted, IsAnnotation, IsPart, AreItems, IsItem, IsHint, IsResult, IsSingle, IsTargets, IsImport, AreImports, IsFrom, IsSimple, IsLine, IsLiteral, IsParam, AreParams, IsBase, IsMember, then_all, IsBlock, IsStatement, AreStatements, IsCompound, AreElifs, IsElse, AreHandlers, IsCaught, IsFunction, IsClass, IsBody, IsEntry, AreEntries}
 use Rattle.py_descent.specs.Takings.{binary_in}
 use Rattle.py_descent.specs.Goals.{name, plain_name, dotted, dots, annotation, parts, part, items, item, hint, result, strings, octets, literal, test, disjunction, conjunction, inversion, comparison, compare_operator, factor, power, primary, atom, tests, choice, disjunctions, conjunctions, trailers, operation, operations, call_rest, subscript, slice, bounds, stride, arguments, argument, variable, super_rest, group, list_display, dict_display, pairs, tests_after, more_tests, import_part, imports, from_part, froms, return_rest, raise_rest, assert_rest, from_rest, assignment, assigned, annotated, simple_kind, simple, line, param, params, base, function, definition, class_rest, class_member, entry, class_body, entries, for_targets, more_targets, if_rest, while_rest, for_rest, try_rest, else_rest, caught, compound, block, elifs, handlers, statement, statements}
 use Rattle.py_descent.specs.Programs.{said}

@@ -7,10 +7,10 @@ use Rattle.py_tokens.specs.declared.token.TokenKind.TheVariants as kind
 use Rattle.py_tokens.specs.declared.token.Op.{Op}
 use Rattle.py_tree.specs.Tree as tree
 use Rattle.py_tree.specs.Tree.{Expr}
-use Rattle.py_tree.specs.Cursor.{Cursor, past, with_site, made}
-use Rattle.py_tree.specs.Operators
-use Rattle.py_tree.specs.Operators.{IsBinary}
-use Rattle.py_tree.specs.Expressions.{IsOperation, operation_factor, operation_next, operation_binary}
+use Rattle.py_grammar.specs.Cursor.{Cursor, past, with_site, made}
+use Rattle.py_grammar.specs.Operators
+use Rattle.py_grammar.specs.Operators.{IsBinary}
+use Rattle.py_grammar.specs.Expressions.{IsOperation, operation_factor, operation_next, operation_binary}
 use Rattle.py_descent.specs.Takings.{binary_in, of_level}
 use Rattle.py_descent.specs.Goals.{operation, operations}
 use Rattle.py_descent.specs.Programs.{said}

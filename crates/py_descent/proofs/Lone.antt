@@ -7,10 +7,10 @@ use Rattle.py_tokens.specs.declared.token.Op.TheVariants as op
 use Rattle.place_ids.specs.declared.operators.BinOp.{BinOp}
 use Rattle.place_ids.specs.declared.operators.CompareOp.{CompareOp}
 use Rattle.py_tree.specs.Tree.{Expr}
-use Rattle.py_tree.specs.Cursor.{Cursor, next, past, Begins, BeginsOp, BeginsWord}
-use Rattle.py_tree.specs.Operators
-use Rattle.py_tree.specs.Operators.{IsBinary}
-use Rattle.py_tree.specs.Expressions.{AreStrs, strs_one, strs_more, AreOctets, octets_one, octets_more, IsComparison, IsTest, test_or, test_choice, IsOr, or_and, or_or, IsAnd, and_not, and_and, IsNot, not_compare, not_not, IsCompare, compare_one, compare_two, IsOperation, operation_factor, operation_next, operation_binary, IsFactor, factor_power, factor_unary, IsPower, power_primary, power_pow, IsPrimary, primary_atom, primary_attr, primary_call, primary_item, primary_slice, IsAtom, atom_name, atom_int, atom_float, atom_strs, atom_octets, atom_none, atom_true, atom_false, atom_unit, atom_group, atom_empty_list, atom_list, atom_dict, atom_super}
+use Rattle.py_grammar.specs.Cursor.{Cursor, next, past, Begins, BeginsOp, BeginsWord}
+use Rattle.py_grammar.specs.Operators
+use Rattle.py_grammar.specs.Operators.{IsBinary}
+use Rattle.py_grammar.specs.Expressions.{AreStrs, strs_one, strs_more, AreOctets, octets_one, octets_more, IsComparison, IsTest, test_or, test_choice, IsOr, or_and, or_or, IsAnd, and_not, and_and, IsNot, not_compare, not_not, IsCompare, compare_one, compare_two, IsOperation, operation_factor, operation_next, operation_binary, IsFactor, factor_power, factor_unary, IsPower, power_primary, power_pow, IsPrimary, primary_atom, primary_attr, primary_call, primary_item, primary_slice, IsAtom, atom_name, atom_int, atom_float, atom_strs, atom_octets, atom_none, atom_true, atom_false, atom_unit, atom_group, atom_empty_list, atom_list, atom_dict, atom_super}
 use Rattle.py_descent.proofs.Stops.{pull, comparison_pull}
 
 -- two tokens that differ don't stand at one place

@@ -1,5 +1,5 @@
 -- The two laws of the descent.
-use Rattle.py_tree.specs.Modules.{start}
+use Rattle.py_grammar.specs.Modules.{start}
 use Rattle.py_descent.specs.Laws.{IsSound, IsComplete}
 use Rattle.py_descent.proofs.Compound.{complete_statements}
 use Rattle.py_descent.proofs.Sound.{module_sound}

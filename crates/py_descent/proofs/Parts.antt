@@ -4,10 +4,10 @@ use Rattle.place_ids.specs.declared.operators.CompareOp.{CompareOp}
 use Rattle.py_tokens.specs.declared.token.Op.TheVariants as op
 use Rattle.py_tree.specs.Tree as tree
 use Rattle.py_tree.specs.Tree.{Expr, Exprs, no_exprs, expr, Bound, no_bound, FromPart, Stmt, StmtKind, FunDef}
-use Rattle.py_tree.specs.Cursor.{Cursor, BeginsOp, line_of, past, stated}
-use Rattle.py_tree.specs.Names.{IsName, IsPlainName}
-use Rattle.py_tree.specs.Expressions.{AreStrs, AreOctets, IsComparison, IsOperation, IsPrimary, IsBound, IsTests}
-use Rattle.py_tree.specs.Statements.{AreFrom, IsAssigned, IsSimple, IsFunction}
+use Rattle.py_grammar.specs.Cursor.{Cursor, BeginsOp, line_of, past, stated}
+use Rattle.py_grammar.specs.Names.{IsName, IsPlainName}
+use Rattle.py_grammar.specs.Expressions.{AreStrs, AreOctets, IsComparison, IsOperation, IsPrimary, IsBound, IsTests}
+use Rattle.py_grammar.specs.Statements.{AreFrom, IsAssigned, IsSimple, IsFunction}
 use Rattle.py_descent.specs.Takings.{binary_in}
 use Rattle.py_descent.specs.Programs.{said}
 use Rattle.py_descent.proofs.Means.{Given, given}

@@ -15,10 +15,10 @@ use Rattle.py_tokens.specs.declared.token.Op.{Op}
 use Rattle.py_tokens.specs.declared.token.Op.TheVariants as op
 use Rattle.py_tree.specs.declared.literal.Literal.{Literal}
 use Rattle.py_tree.specs.declared.literal.Literal.TheVariants as lit
-use Rattle.py_tree.specs.Cursor.{Cursor, next, past, Begins, BeginsOp, BeginsWord}
-use Rattle.py_tree.specs.Expressions.{IsComparison, comparison_less, comparison_greater, comparison_less_eq, comparison_greater_eq, comparison_equal, comparison_not_equal}
-use Rattle.py_tree.specs.Operators
-use Rattle.py_tree.specs.Operators.{IsBinary, IsUnary, IsAugmenting}
+use Rattle.py_grammar.specs.Cursor.{Cursor, next, past, Begins, BeginsOp, BeginsWord}
+use Rattle.py_grammar.specs.Expressions.{IsComparison, comparison_less, comparison_greater, comparison_less_eq, comparison_greater_eq, comparison_equal, comparison_not_equal}
+use Rattle.py_grammar.specs.Operators
+use Rattle.py_grammar.specs.Operators.{IsBinary, IsUnary, IsAugmenting}
 use Rattle.py_descent.specs.Codes.{op_code, word_code, Mark, symbol, keyword, newline, indent, dedent, end, is, is_in, at}
 use Rattle.py_descent.specs.Programs.{said, said_of}
 use Rattle.py_descent.specs.Takings.{name_in, str_in, octets_in, number_in, negative_in, constant_in, unary_of, binary_of, compare_of, augment_of, unary_in, binary_in, compare_in, augment_in, of_level}

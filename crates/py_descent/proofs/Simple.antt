@@ -13,14 +13,14 @@ use Rattle.py_tree.specs.declared.literal.Literal.{Literal}
 use Rattle.py_tree.specs.declared.literal.Literal.TheVariants as lit
 use Rattle.py_tree.specs.Tree as tree
 use Rattle.py_tree.specs.Tree.{Expr, node, Exprs, no_exprs, expr, ImportPart, FromPart, Param, Stmt, statement as stated_as, StmtKind, Stmts, no_stmts, stmt, Arms, no_arms, arm, Handlers, no_handlers, handler, FunDef, fun_def, ClassDef, class_def, Member, Members, no_members, member}
-use Rattle.py_tree.specs.Cursor.{Cursor, next, kind_in, Begins, BeginsOp, BeginsWord, line_of, past, past_two, with_site, with_fun, with_class, within, made, stated}
-use Rattle.py_tree.specs.Names.{IsName, IsPlainName, IsVariable}
-use Rattle.py_tree.specs.Operators
-use Rattle.py_tree.specs.Operators.{IsAugmenting}
-use Rattle.py_tree.specs.Expressions
-use Rattle.py_tree.specs.Expressions.{AreStrs, AreOctets, IsTest, test_or, or_and, and_not, not_compare, compare_one, IsOperation, operation_factor, operation_next, factor_power, power_primary, IsPrimary, primary_atom, primary_attr, primary_item, IsAtom, atom_name, atom_group, atom_list, AreTests, tests_last, tests_comma, tests_more, IsTests, tests_one, tests_single, tests_tuple}
-use Rattle.py_tree.specs.Statements
-use Rattle.py_tree.specs.Statements.{AreDots, dots_none, dots_more, IsDotted, IsAnnotation, annotation_one, annotation_more, IsPart, part_name, part_items, part_strs, part_none, AreItems, items_last, items_comma, items_more, IsItem, item_annotation, item_ellipsis, item_empty, item_list, IsHint, hint_none, hint_some, IsResult, result_none, result_some, IsSingle, single_name, single_attr, IsTarget, target_single, target_item, target_group, target_list, AreTargets, targets_last, targets_comma, targets_more, IsTargets, targets_one, targets_single, targets_tuple, is_plural, IsImport, import_name, import_as, AreImports, imports_one, imports_more, IsFrom, from_name, from_as, AreFrom, froms_one, froms_more, IsAssigned, assigned_last, assigned_more, IsSimple, simple_pass, simple_break, simple_continue, simple_ellipsis, simple_return, simple_return_value, simple_raise, simple_raise_value, simple_raise_from, simple_assert, simple_assert_message, simple_import, simple_from, simple_from_group, simple_from_comma, simple_assign, simple_augment, simple_annotated, simple_annotated_value, simple_expression, IsLine, line_last, line_semi, line_more, IsLiteral, literal_int, literal_minus_int, literal_float, literal_minus_float, literal_strs, literal_octets, literal_none, literal_true, literal_false, IsParam, param_plain, param_default, AreParams, params_none, params_last, params_more, IsBase, base_none, base_empty, base_name, IsMember, member_pass, member_ellipsis, member_strs, member_value, member_declared, member_declared_value, then_all}
+use Rattle.py_grammar.specs.Cursor.{Cursor, next, kind_in, Begins, BeginsOp, BeginsWord, line_of, past, past_two, with_site, with_fun, with_class, within, made, stated}
+use Rattle.py_grammar.specs.Names.{IsName, IsPlainName, IsVariable}
+use Rattle.py_grammar.specs.Operators
+use Rattle.py_grammar.specs.Operators.{IsAugmenting}
+use Rattle.py_grammar.specs.Expressions
+use Rattle.py_grammar.specs.Expressions.{AreStrs, AreOctets, IsTest, test_or, or_and, and_not, not_compare, compare_one, IsOperation, operation_factor, operation_next, factor_power, power_primary, IsPrimary, primary_atom, primary_attr, primary_item, IsAtom, atom_name, atom_group, atom_list, AreTests, tests_last, tests_comma, tests_more, IsTests, tests_one, tests_single, tests_tuple}
+use Rattle.py_grammar.specs.Statements
+use Rattle.py_grammar.specs.Statements.{AreDots, dots_none, dots_more, IsDotted, IsAnnotation, annotation_one, annotation_more, IsPart, part_name, part_items, part_strs, part_none, AreItems, items_last, items_comma, items_more, IsItem, item_annotation, item_ellipsis, item_empty, item_list, IsHint, hint_none, hint_some, IsResult, result_none, result_some, IsSingle, single_name, single_attr, IsTarget, target_single, target_item, target_group, target_list, AreTargets, targets_last, targets_comma, targets_more, IsTargets, targets_one, targets_single, targets_tuple, is_plural, IsImport, import_name, import_as, AreImports, imports_one, imports_more, IsFrom, from_name, from_as, AreFrom, froms_one, froms_more, IsAssigned, assigned_last, assigned_more, IsSimple, simple_pass, simple_break, simple_continue, simple_ellipsis, simple_return, simple_return_value, simple_raise, simple_raise_value, simple_raise_from, simple_assert, simple_assert_message, simple_import, simple_from, simple_from_group, simple_from_comma, simple_assign, simple_augment, simple_annotated, simple_annotated_value, simple_expression, IsLine, line_last, line_semi, line_more, IsLiteral, literal_int, literal_minus_int, literal_float, literal_minus_float, literal_strs, literal_octets, literal_none, literal_true, literal_false, IsParam, param_plain, param_default, AreParams, params_none, params_last, params_more, IsBase, base_none, base_empty, base_name, IsMember, member_pass, member_ellipsis, member_strs, member_value, member_declared, member_declared_value, then_all}
 use Rattle.py_descent.specs.Codes.{Mark, symbol, keyword, newline, indent, dedent, end, is, at}
 use Rattle.py_descent.specs.Takings.{name_in, str_in, octets_in, number_in, negative_in, constant_in, augment_in, augment_of, is_name_in, begins_in, begins_test}
 use Rattle.py_descent.specs.Goals.{Goal, Value, name, plain_name, dots, dotted, part, parts, annotation, item, items, hint, result, strings, octets, literal, super_rest, variable, atom, call_rest, subscript, slice, trailers, primary, power, factor, operations, operation, compare_operator, comparison, inversion, conjunctions, conjunction, disjunctions, disjunction, choice, test, tests_after, more_tests, tests, bounds, stride, argument, arguments, group, list_display, dict_display, pairs, import_part, imports, from_part, froms, return_rest, raise_rest, assert_rest, from_rest, assignment, assigned, annotated, simple_kind, simple, line, param, params, base, function, definition, class_rest, class_member, entry, class_body, entries, for_targets, more_targets, if_rest, while_rest, for_rest, try_rest, else_rest, caught, compound, block, elifs, handlers, statement, statements}

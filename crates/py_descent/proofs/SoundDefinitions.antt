@@ -3,8 +3,8 @@ use Rattle.std.proofs.Common.{ℕ, Bool, false, List, [], ◌∷◌, ◌++◌, O
 use Rattle.std.specs.Option.{is_some}
 use Rattle.py_tokens.specs.declared.token.Keyword.TheVariants as word
 use Rattle.py_tree.specs.Tree.{Param, FunDef, ClassDef, Member, Members, no_members, member}
-use Rattle.py_tree.specs.Cursor.{Cursor, BeginsWord, past}
-use Rattle.py_tree.specs.Statements.{IsParam, param_plain, param_default, AreParams, params_none, params_last, params_more, IsBase, base_none, base_empty, base_name, IsMember, member_pass, member_ellipsis, member_strs, member_value, member_declared, member_declared_value, IsFunction, function as function_of, IsClass, class as class_of, IsBody, body_line, body_indented, IsEntry, entry_member, entry_method, AreEntries, entries_none, entries_more}
+use Rattle.py_grammar.specs.Cursor.{Cursor, BeginsWord, past}
+use Rattle.py_grammar.specs.Statements.{IsParam, param_plain, param_default, AreParams, params_none, params_last, params_more, IsBase, base_none, base_empty, base_name, IsMember, member_pass, member_ellipsis, member_strs, member_value, member_declared, member_declared_value, IsFunction, function as function_of, IsClass, class as class_of, IsBody, body_line, body_indented, IsEntry, entry_member, entry_method, AreEntries, entries_none, entries_more}
 use Rattle.py_descent.specs.Goals.{param, params, base, function, definition, class_rest, class_member, entry, class_body, entries}
 use Rattle.py_descent.specs.Bodies.{body}
 use Rattle.py_descent.proofs.Means.{way_yes, way_no, told, untold, after, means}

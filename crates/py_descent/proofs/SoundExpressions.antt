@@ -7,8 +7,8 @@ use Rattle.py_tokens.specs.declared.token.Keyword.{Keyword}
 use Rattle.py_tokens.specs.declared.token.Keyword.TheVariants as word
 use Rattle.py_tree.specs.Tree as tree
 use Rattle.py_tree.specs.Tree.{Expr, Exprs, no_exprs, expr}
-use Rattle.py_tree.specs.Cursor.{Cursor, BeginsWord, past, with_site, made}
-use Rattle.py_tree.specs.Expressions.{comparison_is, comparison_is_not, comparison_within, comparison_not_within, IsTest, test_or, test_choice, IsOr, or_and, or_or, IsAnd, and_not, and_and, IsNot, not_compare, not_not, IsCompare, compare_one, compare_two, IsFactor, factor_power, factor_unary, IsPower, power_primary, power_pow, AreTests, tests_last, tests_comma, tests_more, IsTests, tests_one, tests_single, tests_tuple}
+use Rattle.py_grammar.specs.Cursor.{Cursor, BeginsWord, past, with_site, made}
+use Rattle.py_grammar.specs.Expressions.{comparison_is, comparison_is_not, comparison_within, comparison_not_within, IsTest, test_or, test_choice, IsOr, or_and, or_or, IsAnd, and_not, and_and, IsNot, not_compare, not_not, IsCompare, compare_one, compare_two, IsFactor, factor_power, factor_unary, IsPower, power_primary, power_pow, AreTests, tests_last, tests_comma, tests_more, IsTests, tests_one, tests_single, tests_tuple}
 use Rattle.py_descent.specs.Codes.{keyword, at}
 use Rattle.py_descent.specs.Goals.{test, choice, disjunction, disjunctions, conjunction, conjunctions, inversion, comparison, compare_operator, factor, power, tests, tests_after, more_tests}
 use Rattle.py_descent.specs.Bodies.{body}

@@ -3,10 +3,10 @@ use Rattle.std.proofs.Common.{◌≡◌, ℕ, ◌&&◌, ◌||◌, Bool, true, fa
 use Rattle.py_tokens.specs.declared.token.TokenKind.TheVariants as kind
 use Rattle.py_tokens.specs.declared.token.Op.TheVariants as op
 use Rattle.py_tree.specs.declared.literal.Literal.{Literal}
-use Rattle.py_tree.specs.Cursor.{Cursor, Begins, BeginsOp, past, past_two}
-use Rattle.py_tree.specs.Names.{IsName, IsPlainName}
-use Rattle.py_tree.specs.Expressions.{AreStrs, strs_one, strs_more, AreOctets, octets_one, octets_more}
-use Rattle.py_tree.specs.Statements.{AreDots, dots_none, dots_more, dotted as dotted_name, IsDotted, IsAnnotation, annotation_one, annotation_more, IsPart, part_name, part_items, part_strs, part_none, AreItems, items_last, items_comma, items_more, IsItem, item_annotation, item_ellipsis, item_empty, item_list, IsHint, hint_none, hint_some, IsResult, result_none, result_some, IsLiteral, literal_int, literal_minus_int, literal_float, literal_minus_float, literal_strs, literal_octets, literal_none, literal_true, literal_false}
+use Rattle.py_grammar.specs.Cursor.{Cursor, Begins, BeginsOp, past, past_two}
+use Rattle.py_grammar.specs.Names.{IsName, IsPlainName}
+use Rattle.py_grammar.specs.Expressions.{AreStrs, strs_one, strs_more, AreOctets, octets_one, octets_more}
+use Rattle.py_grammar.specs.Statements.{AreDots, dots_none, dots_more, dotted as dotted_name, IsDotted, IsAnnotation, annotation_one, annotation_more, IsPart, part_name, part_items, part_strs, part_none, AreItems, items_last, items_comma, items_more, IsItem, item_annotation, item_ellipsis, item_empty, item_list, IsHint, hint_none, hint_some, IsResult, result_none, result_some, IsLiteral, literal_int, literal_minus_int, literal_float, literal_minus_float, literal_strs, literal_octets, literal_none, literal_true, literal_false}
 use Rattle.py_descent.specs.Takings.{is_barred, is_named_specially, name_in}
 use Rattle.py_descent.specs.Goals.{name, plain_name, dotted, dots, annotation, parts, part, items, item, hint, result, strings, octets, literal}
 use Rattle.py_descent.specs.Bodies.{body}

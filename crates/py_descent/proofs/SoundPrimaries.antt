@@ -5,9 +5,9 @@ use Rattle.py_tokens.specs.declared.token.Op.TheVariants as op
 use Rattle.py_tree.specs.declared.literal.Literal.{Literal}
 use Rattle.py_tree.specs.Tree as tree
 use Rattle.py_tree.specs.Tree.{Expr, Bound, no_bound, bound, Args, no_args, arg, Pairs, no_pairs, pair}
-use Rattle.py_tree.specs.Cursor.{Cursor, BeginsOp, past, with_site, made}
-use Rattle.py_tree.specs.Names.{text_of, is_super, IsName}
-use Rattle.py_tree.specs.Expressions.{IsPrimary, primary_atom, primary_attr, primary_call, primary_item, primary_slice, IsSlice, slice_two, slice_three, IsBound, bound_none, bound_some, AreArgs, args_none, args_last, args_more, IsArg, arg_test, arg_named, IsAtom, atom_name, atom_int, atom_float, atom_strs, atom_octets, atom_none, atom_true, atom_false, atom_unit, atom_group, atom_empty_list, atom_list, atom_dict, atom_super, ArePairs, pairs_none, pairs_last, pairs_more}
+use Rattle.py_grammar.specs.Cursor.{Cursor, BeginsOp, past, with_site, made}
+use Rattle.py_grammar.specs.Names.{text_of, is_super, IsName}
+use Rattle.py_grammar.specs.Expressions.{IsPrimary, primary_atom, primary_attr, primary_call, primary_item, primary_slice, IsSlice, slice_two, slice_three, IsBound, bound_none, bound_some, AreArgs, args_none, args_last, args_more, IsArg, arg_test, arg_named, IsAtom, atom_name, atom_int, atom_float, atom_strs, atom_octets, atom_none, atom_true, atom_false, atom_unit, atom_group, atom_empty_list, atom_list, atom_dict, atom_super, ArePairs, pairs_none, pairs_last, pairs_more}
 use Rattle.py_descent.specs.Takings.{is_named_super}
 use Rattle.py_descent.specs.Goals.{primary, trailers, call_rest, subscript, slice, bounds, stride, arguments, argument, atom, variable, super_rest, group, list_display, dict_display, pairs}
 use Rattle.py_descent.specs.Bodies.{body}

@@ -5,9 +5,9 @@ use Rattle.py_tokens.specs.declared.token.Keyword.TheVariants as word
 use Rattle.py_tokens.specs.declared.token.Op.TheVariants as op
 use Rattle.py_tree.specs.Tree as tree
 use Rattle.py_tree.specs.Tree.{Expr, Exprs, no_exprs, expr, ImportPart, FromPart, Stmt, StmtKind, Stmts, no_stmts, stmt}
-use Rattle.py_tree.specs.Cursor.{Cursor, BeginsOp, BeginsWord, past, stated}
-use Rattle.py_tree.specs.Expressions.{IsTests}
-use Rattle.py_tree.specs.Statements.{dots_none, dots_more, dotted as dotted_name, IsDotted, IsSingle, IsTargets, targets_one, targets_single, targets_tuple, is_plural, IsImport, import_name, import_as, AreImports, imports_one, imports_more, IsFrom, from_name, from_as, froms_one, froms_more, IsAssigned, assigned_last, assigned_more, IsSimple, simple_pass, simple_break, simple_continue, simple_ellipsis, simple_return, simple_return_value, simple_raise, simple_raise_value, simple_raise_from, simple_assert, simple_assert_message, simple_import, simple_from, simple_from_group, simple_from_comma, simple_assign, simple_augment, simple_annotated, simple_annotated_value, simple_expression, IsLine, line_last, line_semi, line_more, then_all}
+use Rattle.py_grammar.specs.Cursor.{Cursor, BeginsOp, BeginsWord, past, stated}
+use Rattle.py_grammar.specs.Expressions.{IsTests}
+use Rattle.py_grammar.specs.Statements.{dots_none, dots_more, dotted as dotted_name, IsDotted, IsSingle, IsTargets, targets_one, targets_single, targets_tuple, is_plural, IsImport, import_name, import_as, AreImports, imports_one, imports_more, IsFrom, from_name, from_as, froms_one, froms_more, IsAssigned, assigned_last, assigned_more, IsSimple, simple_pass, simple_break, simple_continue, simple_ellipsis, simple_return, simple_return_value, simple_raise, simple_raise_value, simple_raise_from, simple_assert, simple_assert_message, simple_import, simple_from, simple_from_group, simple_from_comma, simple_assign, simple_augment, simple_annotated, simple_annotated_value, simple_expression, IsLine, line_last, line_semi, line_more, then_all}
 use Rattle.py_descent.specs.Goals.{import_part, imports, from_part, froms, return_rest, raise_rest, assert_rest, from_rest, assignment, assigned, annotated, simple_kind, simple, line, for_targets, more_targets}
 use Rattle.py_descent.specs.Bodies.{body, and_expr, is_lone, is_target, some_targets, are_targets}
 use Rattle.py_descent.proofs.Means.{way_yes, way_no, told, untold, after, means}

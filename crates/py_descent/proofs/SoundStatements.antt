@@ -3,8 +3,8 @@ use Rattle.std.proofs.Common.{◌≡◌, ℕ, Bool, true, Option, Some, None, sy
 use Rattle.py_tokens.specs.declared.token.Keyword.TheVariants as word
 use Rattle.py_tree.specs.Tree as tree
 use Rattle.py_tree.specs.Tree.{Expr, StmtKind, Stmts, no_stmts, stmt, Arms, no_arms, arm, Handlers, no_handlers, handler, FunDef}
-use Rattle.py_tree.specs.Cursor.{Cursor, BeginsWord, line_of, past, stated}
-use Rattle.py_tree.specs.Statements.{then_all, IsBlock, block_line, block_indented, IsStatement, statement_line, statement_compound, statement_def, statement_class, AreStatements, statements_none, statements_more, IsCompound, compound_if, compound_while, compound_for, compound_try, AreElifs, elifs_none, elifs_more, IsElse, else_none, else_block, AreHandlers, handlers_bare, handlers_last, handlers_more, IsCaught, caught_test, caught_as}
+use Rattle.py_grammar.specs.Cursor.{Cursor, BeginsWord, line_of, past, stated}
+use Rattle.py_grammar.specs.Statements.{then_all, IsBlock, block_line, block_indented, IsStatement, statement_line, statement_compound, statement_def, statement_class, AreStatements, statements_none, statements_more, IsCompound, compound_if, compound_while, compound_for, compound_try, AreElifs, elifs_none, elifs_more, IsElse, else_none, else_block, AreHandlers, handlers_bare, handlers_last, handlers_more, IsCaught, caught_test, caught_as}
 use Rattle.py_descent.specs.Goals.{if_rest, while_rest, for_rest, try_rest, else_rest, caught, compound, block, elifs, handlers, statement, statements}
 use Rattle.py_descent.specs.Bodies.{body}
 use Rattle.py_descent.proofs.Means.{way_yes, way_no, after, means}

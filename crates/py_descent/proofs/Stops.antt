@@ -8,10 +8,10 @@ use Rattle.py_tokens.specs.declared.token.Keyword.{Keyword}
 use Rattle.py_tokens.specs.declared.token.Keyword.TheVariants as word
 use Rattle.py_tokens.specs.declared.token.Op.{Op}
 use Rattle.py_tokens.specs.declared.token.Op.TheVariants as op
-use Rattle.py_tree.specs.Cursor.{Cursor, next, past, Begins, BeginsOp, BeginsWord}
-use Rattle.py_tree.specs.Operators
-use Rattle.py_tree.specs.Operators.{IsBinary}
-use Rattle.py_tree.specs.Expressions.{IsComparison, comparison_less, comparison_greater, comparison_less_eq, comparison_greater_eq, comparison_equal, comparison_not_equal, comparison_is, comparison_is_not, comparison_within, comparison_not_within}
+use Rattle.py_grammar.specs.Cursor.{Cursor, next, past, Begins, BeginsOp, BeginsWord}
+use Rattle.py_grammar.specs.Operators
+use Rattle.py_grammar.specs.Operators.{IsBinary}
+use Rattle.py_grammar.specs.Expressions.{IsComparison, comparison_less, comparison_greater, comparison_less_eq, comparison_greater_eq, comparison_equal, comparison_not_equal, comparison_is, comparison_is_not, comparison_within, comparison_not_within}
 use Rattle.py_descent.specs.Codes.{symbol, keyword, at}
 use Rattle.py_descent.specs.Programs.{said}
 use Rattle.py_descent.specs.Takings.{str_in, octets_in, compare_in, binary_in}

@@ -2,9 +2,9 @@
 use Rattle.std.proofs.Common.{◌≡◌, ℕ, ◌+◌, ◌-◌, ◌&&◌, Bool, true, false, slice_get, refl, ap, ◌∙◌, arith}
 use Rattle.py_tokens.specs.declared.token.Op.TheVariants as op
 use Rattle.py_tree.specs.Tree.{Expr, Exprs, no_exprs, expr}
-use Rattle.py_tree.specs.Cursor.{Cursor, kind_in, BeginsOp, past}
-use Rattle.py_tree.specs.Expressions.{IsTest, test_or, test_choice, IsOr, or_and, or_or, IsAnd, and_not, and_and, IsNot, not_compare, not_not, IsCompare, compare_one, compare_two, IsOperation, operation_factor, operation_next, operation_binary, IsFactor, factor_power, factor_unary, IsPower, power_primary, power_pow, IsPrimary, primary_atom, primary_attr, primary_call, primary_item, primary_slice, IsAtom, atom_name, atom_int, atom_float, atom_strs, atom_octets, atom_none, atom_true, atom_false, atom_unit, atom_group, atom_empty_list, atom_list, atom_dict, atom_super, AreTests, tests_last, tests_comma, tests_more, IsTests, tests_one, tests_single, tests_tuple}
-use Rattle.py_tree.specs.Statements.{IsSingle, single_name, single_attr, IsTarget, target_single, target_item, target_group, target_list, AreTargets, targets_last, targets_comma, targets_more, IsTargets, targets_one, targets_single, targets_tuple, is_plural}
+use Rattle.py_grammar.specs.Cursor.{Cursor, kind_in, BeginsOp, past}
+use Rattle.py_grammar.specs.Expressions.{IsTest, test_or, test_choice, IsOr, or_and, or_or, IsAnd, and_not, and_and, IsNot, not_compare, not_not, IsCompare, compare_one, compare_two, IsOperation, operation_factor, operation_next, operation_binary, IsFactor, factor_power, factor_unary, IsPower, power_primary, power_pow, IsPrimary, primary_atom, primary_attr, primary_call, primary_item, primary_slice, IsAtom, atom_name, atom_int, atom_float, atom_strs, atom_octets, atom_none, atom_true, atom_false, atom_unit, atom_group, atom_empty_list, atom_list, atom_dict, atom_super, AreTests, tests_last, tests_comma, tests_more, IsTests, tests_one, tests_single, tests_tuple}
+use Rattle.py_grammar.specs.Statements.{IsSingle, single_name, single_attr, IsTarget, target_single, target_item, target_group, target_list, AreTargets, targets_last, targets_comma, targets_more, IsTargets, targets_one, targets_single, targets_tuple, is_plural}
 use Rattle.py_descent.specs.Takings.{is_name_in}
 use Rattle.py_descent.specs.Bodies.{is_target, some_targets, are_targets, is_single, after_name}
 use Rattle.py_descent.proofs.Parts.{ArePrimaries, primaries_last, primaries_comma, primaries_more}

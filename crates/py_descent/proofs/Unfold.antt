@@ -4,7 +4,7 @@ use Rattle.std.proofs.lemmas.Bool.Decides.{nat_tests}
 use Rattle.std.proofs.lemmas.Option.{slice_get_within}
 use Rattle.py_tokens.specs.declared.token.Token.{Token}
 use Rattle.py_tokens.specs.declared.token.TokenKind.{TokenKind}
-use Rattle.py_tree.specs.Cursor.{Cursor, next, kind_in, past, with_site, with_fun, with_class, within}
+use Rattle.py_grammar.specs.Cursor.{Cursor, next, kind_in, past, with_site, with_fun, with_class, within}
 use Rattle.py_descent.specs.Codes.{Mark, is_in, at}
 use Rattle.py_descent.specs.Goals.{Goal, Value, rank, name, plain_name, dots, dotted, part, parts, annotation, item, items, hint, result, strings, octets, literal, super_rest, variable, atom, call_rest, subscript, slice, trailers, primary, power, factor, operations, operation, compare_operator, comparison, inversion, conjunctions, conjunction, disjunctions, disjunction, choice, test, tests_after, more_tests, tests, bounds, stride, argument, arguments, group, list_display, dict_display, pairs, import_part, imports, from_part, froms, return_rest, raise_rest, assert_rest, from_rest, assignment, assigned, annotated, simple_kind, simple, line, param, params, base, function, definition, class_rest, class_member, entry, class_body, entries, for_targets, more_targets, if_rest, while_rest, for_rest, try_rest, else_rest, caught, compound, block, elifs, handlers, statement, statements}
 use Rattle.py_descent.specs.Programs.{Answer, gives, refuses, Program, give, refuse, reading, choose, eat, take, site, fun_id, class_id, inside, call as look, step, Calls, bind, said, said_of, on_said, room, exec}

@@ -11,8 +11,8 @@ use Rattle.py_tree.specs.declared.literal.Literal.{Literal}
 use Rattle.py_tree.specs.declared.literal.Literal.TheVariants as lit
 use Rattle.py_tree.specs.Tree as tree
 use Rattle.py_tree.specs.Tree.{Expr, node, ExprKind, Exprs, no_exprs, expr, no_bound, bound, Args, no_args, arg, Pairs, no_pairs, pair, ImportPart, FromPart, Param, Stmt, statement as stated_as, StmtKind, Stmts, no_stmts, stmt, Arms, no_arms, arm, Handlers, no_handlers, handler, fun_def, class_def, Member, Members, no_members, member}
-use Rattle.py_tree.specs.Cursor.{Cursor, next, kind_in, line_of}
-use Rattle.py_tree.specs.Statements.{is_plural}
+use Rattle.py_grammar.specs.Cursor.{Cursor, next, kind_in, line_of}
+use Rattle.py_grammar.specs.Statements.{is_plural}
 use Rattle.py_descent.specs.Codes.{Mark, symbol, keyword, newline, indent, dedent, end, at}
 use Rattle.py_descent.specs.Takings.{name_in, str_in, octets_in, number_in, negative_in, constant_in, unary_in, binary_in, compare_in, augment_in, is_name_in, begins_test, is_barred, is_named_specially, is_named_super}
 use Rattle.py_descent.specs.Goals.{Goal, Value, name, plain_name, dotted, dots, annotation, parts, part, items, item, hint, result, strings, octets, literal, test, disjunction, conjunction, inversion, comparison, compare_operator, factor, power, primary, atom, tests, choice, disjunctions, conjunctions, trailers, operation, operations, call_rest, subscript, slice, bounds, stride, arguments, argument, variable, super_rest, group, list_display, dict_display, pairs, tests_after, more_tests, import_part, imports, from_part, froms, return_rest, raise_rest, assert_rest, from_rest, assignment, assigned, annotated, simple_kind, simple, line, param, params, base, function, definition, class_rest, class_member, entry, class_body, entries, for_targets, more_targets, if_rest, while_rest, for_rest, try_rest, else_rest, caught, compound, block, elifs, handlers, statement, statements}

@@ -6,7 +6,7 @@ use Rattle.py_tokens.specs.declared.token.Keyword.{Keyword}
 use Rattle.py_tokens.specs.declared.token.Keyword.TheVariants as word
 use Rattle.py_tokens.specs.declared.token.Op.{Op}
 use Rattle.py_tokens.specs.declared.token.Op.TheVariants as op
-use Rattle.py_tree.specs.Cursor.{Cursor, next}
+use Rattle.py_grammar.specs.Cursor.{Cursor, next}
 
 abbrev pub op_code : Op → ℕ
 op_code op.Plus = 0

@@ -1,6 +1,6 @@
 -- The descent: the programs of the goals, run with turns enough.
 use Rattle.std.specs.Prelude.{ℕ, zero, suc, ◌+◌, ◌*◌, false}
-use Rattle.py_tree.specs.Cursor.{Cursor}
+use Rattle.py_grammar.specs.Cursor.{Cursor}
 use Rattle.py_descent.specs.Goals.{Goal, Value, rank}
 use Rattle.py_descent.specs.Programs.{Answer, refuses, exec, room}
 use Rattle.py_descent.specs.Bodies.{body}

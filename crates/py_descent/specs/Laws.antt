@@ -2,9 +2,9 @@
 use Rattle.std.specs.Prelude.{◌≡◌, true}
 use Rattle.py_tokens.specs.declared.token.TokenKind.TheVariants as kind
 use Rattle.py_tokens.specs.TokenList.{TokenList}
-use Rattle.py_tree.specs.Cursor.{Cursor, Begins}
-use Rattle.py_tree.specs.Modules.{start}
-use Rattle.py_tree.specs.Statements.{AreStatements}
+use Rattle.py_grammar.specs.Cursor.{Cursor, Begins}
+use Rattle.py_grammar.specs.Modules.{start}
+use Rattle.py_grammar.specs.Statements.{AreStatements}
 use Rattle.py_tree.specs.Tree.{Stmts, no_stmts}
 use Rattle.py_descent.specs.Descent.{descent}
 use Rattle.py_descent.specs.Goals.{statements}

@@ -1,7 +1,7 @@
 -- What a goal does, as a program that reads tokens with one ahead, and how programs run.
 use Rattle.std.specs.Prelude.{ℕ, zero, suc, ◌+◌, ◌*◌, ◌-◌, ◌||◌, nat_lt, Bool, true, false, if◌then◌else◌, List, length, Option, Some, None}
 use Rattle.py_tokens.specs.declared.token.TokenKind.{TokenKind}
-use Rattle.py_tree.specs.Cursor.{Cursor, next, past, with_site, with_fun, with_class, within}
+use Rattle.py_grammar.specs.Cursor.{Cursor, next, past, with_site, with_fun, with_class, within}
 use Rattle.py_descent.specs.Codes.{Mark, at}
 use Rattle.py_descent.specs.Goals.{Goal, Value, rank}
 

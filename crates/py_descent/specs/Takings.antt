@@ -13,8 +13,8 @@ use Rattle.py_tokens.specs.declared.token.Op.{Op}
 use Rattle.py_tokens.specs.declared.token.Op.TheVariants as op
 use Rattle.py_tree.specs.declared.literal.Literal.{Literal}
 use Rattle.py_tree.specs.declared.literal.Literal.TheVariants as lit
-use Rattle.py_tree.specs.Cursor.{Cursor, next, past}
-use Rattle.py_tree.specs.Names.{text_of, is_private, is_special, is_super}
+use Rattle.py_grammar.specs.Cursor.{Cursor, next, past}
+use Rattle.py_grammar.specs.Names.{text_of, is_private, is_special, is_super}
 
 abbrev pub name_in : Option TokenKind → Option ℕ
 name_in (Some (kind.Name n)) = Some n

@@ -5,8 +5,8 @@ use Rattle.py_tokens.specs.declared.token.Token.{Token}
 use Rattle.py_tokens.specs.declared.fault.TokenFault.{TokenFault}
 use Rattle.py_tokens.specs.Readings.{HasTokens, HasFault}
 use Rattle.py_tokens.specs.TokenList.{TokenList}
-use Rattle.py_tree.specs.Cursor.{Cursor}
-use Rattle.py_tree.specs.Modules.{IsModuleOf}
+use Rattle.py_grammar.specs.Cursor.{Cursor}
+use Rattle.py_grammar.specs.Modules.{IsModuleOf}
 use Rattle.py_tree.specs.Tree.{Module, Stmts}
 use Rattle.py_descent.specs.Laws.{IsComplete}
 use Rattle.py_descent.specs.Programs.{gives}

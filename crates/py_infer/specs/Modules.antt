@@ -5,7 +5,7 @@ use Rattle.py_tokens.specs.declared.token.Token.{Token}
 use Rattle.py_tokens.specs.Readings.{HasTokens}
 use Rattle.py_tree.specs.declared.literal.Literal.{Literal}
 use Rattle.py_tree.specs.declared.literal.Literal.TheVariants as lit
-use Rattle.py_tree.specs.Names.{text_in}
+use Rattle.py_grammar.specs.Names.{text_in}
 use Rattle.py_tree.specs.Tree as tree
 use Rattle.py_tree.specs.Tree.{Expr, node, StmtKind, assign, Stmts, no_stmts, stmt, statement, Module}
 use Rattle.py_parse.specs.Parses.{IsReading}

@@ -1,11 +1,11 @@
 -- Which values belong to which types, on small heaps.
-use Rattle.std.proofs.Common.{◌≡◌, ℕ, pos, true, false, List, [], ◌∷◌, Option, Some, None, refl, inl, inr}
+use Rattle.std.proofs.Common.{pos, true, false, List, [], ◌∷◌, Some, refl, inl, inr}
 use Rattle.std.specs.Prelude.{codes}
 use Rattle.py_tree.specs.Tree as tree
 use Rattle.py_tree.specs.Tree.{Module, statement, no_stmts, stmt, class_def, no_members, member}
 use Rattle.type_terms.specs.Terms as term
 use Rattle.type_terms.specs.Terms.{Term, terms_of}
-use Rattle.py_meaning.specs.Values.{Value, none, truth, whole, float, text, octets, ref}
+use Rattle.py_meaning.specs.Values.{Value, none, truth, whole, float, text, ref}
 use Rattle.py_meaning.specs.Objects as object
 use Rattle.py_meaning.specs.Objects.{Object}
 use Rattle.py_meaning.specs.Programs.{Program, program}

@@ -4,8 +4,19 @@ use Rattle.std.specs.Prelude.{codes, insert, remove, take, drop}
 use Rattle.std.specs.Str.{bytes_eq}
 use Rattle.builtin_stubs.specs.declared.native.NativeSort.{NativeSort}
 use Rattle.builtin_stubs.specs.declared.native.NativeSort.TheVariants as sort
-use Rattle.builtin_stubs.specs.Meanings as meaning
-use Rattle.builtin_stubs.specs.Meanings.{Native, Effect, Part, Outcome}
+use Rattle.builtin_stubs.specs.declared.basic.Basic.{Basic}
+use Rattle.builtin_stubs.specs.declared.deed.Deed.{Deed}
+use Rattle.builtin_stubs.specs.declared.deed.Deed.TheVariants as deed
+use Rattle.builtin_stubs.specs.declared.parts.Effect.{Effect}
+use Rattle.builtin_stubs.specs.declared.parts.Outcome.{Outcome}
+use Rattle.builtin_stubs.specs.declared.parts.Outcome.TheVariants as outcome
+use Rattle.builtin_stubs.specs.declared.parts.Part.{Part}
+use Rattle.builtin_stubs.specs.declared.parts.Part.TheVariants as part
+use Rattle.builtin_stubs.specs.declared.parts.Parts.{Parts}
+use Rattle.builtin_stubs.specs.declared.parts.Parts.TheVariants as parts
+use Rattle.builtin_stubs.specs.declared.parts.Place.{Place}
+use Rattle.builtin_stubs.specs.declared.parts.Place.TheVariants as into
+use Rattle.builtin_stubs.specs.Meanings.{Native, effects_of, outcome_of}
 use Rattle.builtin_stubs.specs.Natives.{natives, function_number}
 use Rattle.type_terms.specs.Terms as term
 use Rattle.py_meaning.specs.Values.{Value, none, truth, text, ref, Entries, entry, with_entry}
@@ -13,18 +24,18 @@ use Rattle.py_meaning.specs.Objects as object
 use Rattle.py_meaning.specs.Objects.{Object, object_at, builtin}
 use Rattle.py_meaning.specs.Events.{FaultKind}
 use Rattle.py_meaning.specs.Programs.{Program, text_at, is_local, is_bound}
-use Rattle.py_meaning.specs.Contents.{Pair, pairs, contents, contents_at, read, read_all, read_pairs}
-use Rattle.py_meaning.specs.Fresh.{fresh_text, of_kind}
+use Rattle.py_meaning.specs.Contents.{Pair, pairs, contents, contents_at, read, read_pairs}
+use Rattle.py_meaning.specs.Fresh.{of_kind, value_of_row}
 use Rattle.py_meaning.specs.Iteration.{iterate, items_of, is_iterable}
 use Rattle.py_meaning.specs.ClassTests.{decided, instance_test, class_at}
 use Rattle.py_meaning.specs.Matching.{native_fault}
 use Rattle.py_meaning.specs.Dicts.{pairs_added, add_pairs, add_two, is_outside_at, add_item, add_each, add_through, add_from_object, add_from}
-use Rattle.py_meaning.specs.Natives.{values, word_pairs, call_by_texts, argument_or, gives_none, given_items, some_of, three_of, list_parts, tuple_parts, own_pairs, filled_from, new_dict, one_or_error, least_or_most, tells_class, outcome_value, entering, parts_added, add_parts, enter_all, effects_on, do_effects, inserts, take_part, pops, removes, clears, some_pair, gets, sets_default, pair_taken, given_or_error, pops_pair, updates, Deed, by_its_row, insert_deed, pop_deed, remove_deed, clear_deed, get_deed, pop_pair_deed, default_deed, update_deed, deed_of, do_by_row, do_deed, do_native, call_native}
+use Rattle.py_meaning.specs.Natives.{values, word_pairs, call_by_texts, argument_or, gives_none, given_items, own_pairs, is_dict, given_pairs, receiver_pairs, keys_in, values_in, given, part_values, all_values, some_of, many, three, single, filled_from, new_dict, one_or_error, least_or_most, tells_class, part_value, some_value, outcome_value, same_place, entering, parts_added, add_parts, paired, effects_on, do_effects, inserts, take_part, pops, removes, clears, some_pair, gets, sets_default, pair_taken, given_or_error, pops_pair, updates, do_by_parts, do_deed, do_native, call_native}
 use Rattle.py_meaning.specs.Names.{found_or, native_value, builtin_value, global_value, value_in_frame, load, with_globals, with_locals, changed_in_frame, bound, store}
 use Rattle.py_meaning.specs.Actions.{Frame, Memory, Argument, Action, gives, counts, looks, bind, then_do, allocate, replace, anything, is_even, pick, one_of, raise_builtin, may_raise, fails, done}
 use Rattle.py_meaning.specs.References.{IsWithin, AreWithin, EntriesWithin, PairsWithin, OptionWithin, ObjectWithin}
-use Rattle.py_meaning.proofs.Kept.{within_on, are_on, pairs_on, option_on, object_on, FrameWithin, size, Good, Safe, Free, ArgumentsWithin, safe_bind, safe_then, safe_takes, safe_counts, safe_looks, safe_if, safe_on, safe_allocate, safe_done, safe_replace, safe_at, object_within, safe_pick, safe_anything, safe_raise, safe_fails, safe_may, safe_option, safe_gives, safe_gives_all, are_append, pairs_append, get_within, or_within, entry_within, with_entry_within}
-use Rattle.py_meaning.proofs.KeptValues.{text_safe, kind_safe, ContentWithin, ContentPairsWithin, contents_within, contents_at_within, content_pairs_within, read_safe, read_all_safe, read_pairs_safe, StepWithin, element_safe, iterate_safe, items_safe}
+use Rattle.py_meaning.proofs.Kept.{within_on, are_on, pairs_on, option_on, object_on, FrameWithin, size, Good, Safe, Free, ArgumentsWithin, safe_bind, safe_then, safe_takes, safe_counts, safe_looks, safe_if, safe_on, safe_allocate, safe_done, safe_replace, safe_at, object_within, safe_pick, safe_anything, safe_raise, safe_fails, safe_may, safe_option, safe_gives, safe_gives_all, safe_gives_pairs, firsts_within, seconds_within, are_append, pairs_append, get_within, or_within, entry_within, with_entry_within}
+use Rattle.py_meaning.proofs.KeptValues.{kind_safe, row_value_safe, ContentWithin, ContentPairsWithin, contents_within, contents_at_within, content_pairs_within, read_safe, read_all_safe, read_pairs_safe, StepWithin, element_safe, iterate_safe, items_safe}
 use Rattle.py_meaning.proofs.KeptParts.{part_safe, OnePairWithin, one_pair_within, decided_safe}
 
 -- ---- dicts
@@ -115,28 +126,66 @@ some_of_safe (suc fuel) n a sofar h k =
     (safe_bind n IsWithin AreWithin a (λ v. some_of fuel a (sofar ++ v ∷ [])) (h n (omega arith)) (λ v j le w. some_of_safe fuel j a (sofar ++ v ∷ []) (λ i le'. h i (omega arith)) (are_append j sofar (v ∷ []) (are_on n j sofar le k) (w, tt))))
     (safe_gives_all n sofar k))
 
-three_safe : (n : ℕ) (a : Action Value) → ((k : ℕ) → n ≤ k → Safe k IsWithin a) → Safe n AreWithin (three_of a)
-three_safe n a h =
-    safe_bind n IsWithin AreWithin a _ (h n (omega arith)) (λ u i le x. safe_bind i IsWithin AreWithin a _ (h i le) (λ v j le' y. safe_bind j IsWithin AreWithin a _ (h j (omega arith)) (λ w k le'' z.
-    safe_gives_all k (u ∷ v ∷ w ∷ []) (within_on j k u le'' (within_on i j u le' x), (within_on j k v le'' y, (z, tt))))))
-
-list_parts_safe : (p : Program) (n : ℕ) (receiver : Value) (vs : List Value) (ps : List Part) → AreWithin n vs → Safe n AreWithin (list_parts p receiver vs ps)
-list_parts_safe p n receiver vs (meaning.items i ∷ []) h = given_safe p n (slice_get vs i) (get_within n vs i h)
-list_parts_safe p n receiver vs (meaning.kind k ∷ []) h = safe_counts n AreWithin (λ fuel. some_of fuel (of_kind k) []) (λ fuel. some_of_safe fuel n (of_kind k) [] (λ j le. kind_safe j k) tt)
-list_parts_safe p n receiver vs (meaning.own_elements ∷ []) h = safe_looks n AreWithin (λ m. read_all p (contents_at m.heap receiver)) (λ m good le. read_all_safe p (size m) (contents_at m.heap receiver) (contents_at_within m receiver good))
-list_parts_safe p n receiver vs [] h = safe_gives_all n [] tt
-list_parts_safe p n receiver vs _ h = safe_gives_all n [] tt
-
-tuple_parts_safe : (p : Program) (n : ℕ) (vs : List Value) (ps : List Part) → AreWithin n vs → Safe n AreWithin (tuple_parts p vs ps)
-tuple_parts_safe p n vs (meaning.items i ∷ []) h = given_safe p n (slice_get vs i) (get_within n vs i h)
-tuple_parts_safe p n vs (meaning.kind k ∷ []) h = three_safe n (of_kind k) (λ j le. kind_safe j k)
-tuple_parts_safe p n vs [] h = safe_gives_all n [] tt
-tuple_parts_safe p n vs _ h = safe_gives_all n [] tt
-
 own_pairs_within : (m : Memory) (v : Value) → Good m → ContentPairsWithin (size m) (own_pairs m.heap v)
 own_pairs_within m (ref place) good = content_pairs_within (size m) (object_at m.heap place) (object_within m place good)
 own_pairs_within m none good = tt
 own_pairs_within m _ good = tt
+
+given_within : (n : ℕ) (o : Option Value) → OptionWithin n o → AreWithin n (given o)
+given_within n None h = tt
+given_within n (Some v) h = (h, tt)
+
+any_pair_safe : (n : ℕ) → Safe n PairsWithin (bind anything (λ k. bind anything (λ w. gives ((k, w) ∷ []))))
+any_pair_safe n = safe_bind n IsWithin PairsWithin _ _ (safe_anything n) (λ k i le a. safe_bind i IsWithin PairsWithin _ _ (safe_anything i) (λ w j le' b. safe_gives_pairs j ((k, w) ∷ []) (within_on i j k le' a, b, tt)))
+
+given_pairs_safe : (p : Program) (n : ℕ) (o : Option Value) → Safe n PairsWithin (given_pairs p o)
+given_pairs_safe p n None = safe_gives_pairs n [] tt
+given_pairs_safe p n (Some v) =
+    safe_looks n PairsWithin _ (λ m good le. safe_if (size m) PairsWithin (is_dict m.heap v) _ _ (read_pairs_safe p (size m) (own_pairs m.heap v) (own_pairs_within m v good)) (any_pair_safe (size m)))
+
+receiver_pairs_safe : (p : Program) (n : ℕ) (receiver : Value) → Safe n PairsWithin (receiver_pairs p receiver)
+receiver_pairs_safe p n receiver = safe_looks n PairsWithin _ (λ m good le. read_pairs_safe p (size m) (own_pairs m.heap receiver) (own_pairs_within m receiver good))
+
+keys_safe : (n : ℕ) (a : Action (List (Value × Value))) → Safe n PairsWithin a → Safe n AreWithin (keys_in a)
+keys_safe n a h = safe_bind n PairsWithin AreWithin a _ h (λ qs k le w. safe_gives_all k _ (firsts_within k qs w))
+
+values_safe : (n : ℕ) (a : Action (List (Value × Value))) → Safe n PairsWithin a → Safe n AreWithin (values_in a)
+values_safe n a h = safe_bind n PairsWithin AreWithin a _ h (λ qs k le w. safe_gives_all k _ (seconds_within k qs w))
+
+-- what makes values of a kind within the heap
+abbrev Makes : (Basic → Action (List Value)) → Type 0
+Makes several = (k : Basic) (n : ℕ) → Safe n AreWithin (several k)
+
+many_safe : Makes many
+many_safe k n = safe_counts n AreWithin (λ fuel. some_of fuel (of_kind k) []) (λ fuel. some_of_safe fuel n (of_kind k) [] (λ j le. kind_safe j k) tt)
+
+three_safe : Makes three
+three_safe a n =
+    safe_bind n IsWithin AreWithin _ _ (kind_safe n a) (λ u i le x. safe_bind i IsWithin AreWithin _ _ (kind_safe i a) (λ v j le' y. safe_bind j IsWithin AreWithin _ _ (kind_safe j a) (λ w k le'' z.
+    safe_gives_all k (u ∷ v ∷ w ∷ []) (within_on j k u le'' (within_on i j u le' x), (within_on j k v le'' y, (z, tt))))))
+
+single_safe : Makes single
+single_safe a n = safe_bind n IsWithin AreWithin _ _ (kind_safe n a) (λ v k le w. safe_gives_all k (v ∷ []) (w, tt))
+
+module _ (p : Program) (several : Basic → Action (List Value)) (makes : Makes several) (receiver : Value) (as' : List Argument) where
+  part_values_safe : (n : ℕ) (q : Part) → ArgumentsWithin n as' → Safe n AreWithin (part_values p several receiver as' q)
+  part_values_safe n (part.Kind k) h = makes k n
+  part_values_safe n (part.Argument i) h = safe_gives_all n _ (given_within n (slice_get (values as') i) (get_within n (values as') i (values_within n as' h)))
+  part_values_safe n (part.ArgumentOrNone i) h = safe_gives_all n _ (argument_within n (values as') i none (values_within n as' h) tt, tt)
+  part_values_safe n (part.Items i) h = given_safe p n (slice_get (values as') i) (get_within n (values as') i (values_within n as' h))
+  part_values_safe n (part.Keys i) h = keys_safe n _ (given_pairs_safe p n (slice_get (values as') i))
+  part_values_safe n (part.Values i) h = values_safe n _ (given_pairs_safe p n (slice_get (values as') i))
+  part_values_safe n part.WordNames h = safe_gives_all n _ (firsts_within n (word_pairs as') (words_within n as' h))
+  part_values_safe n part.WordValues h = safe_gives_all n _ (seconds_within n (word_pairs as') (words_within n as' h))
+  part_values_safe n part.OwnElements h = safe_looks n AreWithin _ (λ m good le. read_all_safe p (size m) (contents_at m.heap receiver) (contents_at_within m receiver good))
+  part_values_safe n part.OwnKeys h = keys_safe n _ (receiver_pairs_safe p n receiver)
+  part_values_safe n part.OwnValues h = values_safe n _ (receiver_pairs_safe p n receiver)
+
+  all_values_safe : (n : ℕ) (ps : Parts) → ArgumentsWithin n as' → Safe n AreWithin (all_values p several receiver as' ps)
+  all_values_safe n (parts.One q) h = part_values_safe n q h
+  all_values_safe n (parts.Two q r) h =
+      safe_bind n AreWithin AreWithin _ _ (part_values_safe n q h) (λ vs k le w. safe_bind k AreWithin AreWithin _ _ (part_values_safe k r (arguments_on n k as' le h)) (λ ws j le' x.
+      safe_gives_all j (vs ++ ws) (are_append j vs ws (are_on k j vs le' w) x)))
 
 filled_safe : (p : Program) (n : ℕ) (d : Value) (o : Option Value) (qs : List (Value × Value)) → IsWithin n d → OptionWithin n o → PairsWithin n qs → Safe n IsWithin (filled_from p d o qs)
 filled_safe p n (ref place) None qs a b c = safe_then n Free IsWithin (add_pairs place qs) (gives (ref place)) (add_pairs_safe place n qs c) (λ k le. safe_gives k (ref place) (within_on n k (ref place) le a))
@@ -146,17 +195,16 @@ filled_safe p n (ref place) (Some v) qs a b c =
 filled_safe p n none o qs a b c = safe_gives n none tt
 filled_safe p n d o qs a b c = safe_gives n d a
 
-fill_new : (p : Program) (site n : ℕ) (as' : List Argument) → ArgumentsWithin n as' → Safe n IsWithin (bind (allocate (object.dict site [])) (λ d. filled_from p d (slice_get (values as') 0) (word_pairs as')))
-fill_new p site n as' h =
-    safe_bind n IsWithin IsWithin (allocate (object.dict site [])) (λ d. filled_from p d (slice_get (values as') 0) (word_pairs as')) (safe_allocate n (object.dict site []) tt) (λ d k le w.
-    filled_safe p k d (slice_get (values as') 0) (word_pairs as') w (get_within k (values as') 0 (values_within k as' (arguments_on n k as' le h))) (words_within k as' (arguments_on n k as' le h)))
+fill_new : (p : Program) (site n i : ℕ) (as' : List Argument) → ArgumentsWithin n as' → Safe n IsWithin (bind (allocate (object.dict site [])) (λ d. filled_from p d (slice_get (values as') i) (word_pairs as')))
+fill_new p site n i as' h =
+    safe_bind n IsWithin IsWithin (allocate (object.dict site [])) (λ d. filled_from p d (slice_get (values as') i) (word_pairs as')) (safe_allocate n (object.dict site []) tt) (λ d k le w.
+    filled_safe p k d (slice_get (values as') i) (word_pairs as') w (get_within k (values as') i (values_within k as' (arguments_on n k as' le h))) (words_within k as' (arguments_on n k as' le h)))
 
-new_dict_safe : (p : Program) (site n : ℕ) (receiver : Value) (as' : List Argument) (ps : List Part) → ArgumentsWithin n as' → Safe n IsWithin (new_dict p site receiver as' ps)
-new_dict_safe p site n receiver as' (meaning.own_keys ∷ []) h =
-    safe_looks n IsWithin (λ m. bind (read_pairs p (own_pairs m.heap receiver)) (λ qs. allocate (object.dict site qs))) (λ m good le.
-    safe_bind (size m) PairsWithin IsWithin (read_pairs p (own_pairs m.heap receiver)) (λ qs. allocate (object.dict site qs)) (read_pairs_safe p (size m) (own_pairs m.heap receiver) (own_pairs_within m receiver good)) (λ qs k le' w. safe_allocate k (object.dict site qs) w))
-new_dict_safe p site n receiver as' [] h = fill_new p site n as' h
-new_dict_safe p site n receiver as' _ h = fill_new p site n as' h
+new_dict_safe : (p : Program) (site n : ℕ) (receiver : Value) (as' : List Argument) (ks vs : Parts) → ArgumentsWithin n as' → Safe n IsWithin (new_dict p site receiver as' ks vs)
+new_dict_safe p site n receiver as' (parts.One part.OwnKeys) (parts.One part.OwnValues) h =
+    safe_bind n PairsWithin IsWithin (receiver_pairs p receiver) (λ qs. allocate (object.dict site qs)) (receiver_pairs_safe p n receiver) (λ qs k le w. safe_allocate k (object.dict site qs) w)
+new_dict_safe p site n receiver as' (parts.Two (part.Keys i) part.WordNames) (parts.Two (part.Values j) part.WordValues) h = fill_new p site n i as' h
+new_dict_safe p site n receiver as' _ _ h = safe_allocate n (object.dict site []) tt
 
 one_or_error_safe : (n : ℕ) (o : Option Value) → OptionWithin n o → Safe n IsWithin (one_or_error o)
 one_or_error_safe n None h = safe_raise n IsWithin (codes "ValueError")
@@ -168,13 +216,13 @@ option_gives n o h = record { keeps = λ m good le. option_on n (size m) o le h 
 one_value : (n : ℕ) (vs : List Value) → AreWithin n vs → Safe n OptionWithin (one_of vs)
 one_value n vs h = safe_bind n Free OptionWithin (pick (length vs)) (λ i. gives (slice_get vs i)) (safe_pick n (length vs)) (λ i k le w. option_gives k (slice_get vs i) (get_within k vs i (are_on n k vs le h)))
 
-some_value : (n : ℕ) (vs : List Value) → AreWithin n vs → Safe n IsWithin (bind (one_of vs) one_or_error)
-some_value n vs h = safe_bind n OptionWithin IsWithin (one_of vs) one_or_error (one_value n vs h) (λ o k le w. one_or_error_safe k o w)
+one_safe : (n : ℕ) (vs : List Value) → AreWithin n vs → Safe n IsWithin (bind (one_of vs) one_or_error)
+one_safe n vs h = safe_bind n OptionWithin IsWithin (one_of vs) one_or_error (one_value n vs h) (λ o k le w. one_or_error_safe k o w)
 
 least_safe : (p : Program) (n : ℕ) (vs : List Value) → AreWithin n vs → Safe n IsWithin (least_or_most p vs)
-least_safe p n (v ∷ []) h = safe_bind n AreWithin IsWithin (items_of p v) (λ ws. bind (one_of ws) one_or_error) (items_safe p n v h.0) (λ ws k le w. some_value k ws w)
-least_safe p n [] h = some_value n [] h
-least_safe p n (v ∷ w ∷ ws) h = some_value n (v ∷ w ∷ ws) h
+least_safe p n (v ∷ []) h = safe_bind n AreWithin IsWithin (items_of p v) (λ ws. bind (one_of ws) one_or_error) (items_safe p n v h.0) (λ ws k le w. one_safe k ws w)
+least_safe p n [] h = one_safe n [] h
+least_safe p n (v ∷ w ∷ ws) h = one_safe n (v ∷ w ∷ ws) h
 
 tells_safe : (p : Program) (n : ℕ) (v k : Value) → Safe n IsWithin (tells_class p v k)
 tells_safe p n v k =
@@ -184,27 +232,44 @@ tells_safe p n v k =
 view_within : (n site number : ℕ) (receiver : Option Value) (vs : List Value) → OptionWithin n receiver → AreWithin n vs → Safe n IsWithin (allocate (object.view site number receiver vs))
 view_within n site number receiver vs a b = safe_allocate n (object.view site number receiver vs) (a, b)
 
+one_of_part : (p : Program) (n : ℕ) (receiver : Value) (as' : List Argument) (q : Part) → ArgumentsWithin n as' → Safe n IsWithin (bind (part_values p single receiver as' q) (λ vs. bind (one_of vs) one_or_error))
+one_of_part p n receiver as' q h = safe_bind n AreWithin IsWithin _ _ (part_values_safe p single single_safe receiver as' n q h) (λ vs k le w. one_safe k vs w)
+
+part_value_safe : (p : Program) (n : ℕ) (receiver : Value) (as' : List Argument) (q : Part) → ArgumentsWithin n as' → Safe n IsWithin (part_value p receiver as' q)
+part_value_safe p n receiver as' (part.Kind k) h = kind_safe n k
+part_value_safe p n receiver as' (part.Argument i) h = one_of_part p n receiver as' (part.Argument i) h
+part_value_safe p n receiver as' q h = one_of_part p n receiver as' q h
+
+some_value_safe : (p : Program) (n : ℕ) (receiver : Value) (as' : List Argument) (ps : Parts) → ArgumentsWithin n as' → Safe n IsWithin (some_value p receiver as' ps)
+some_value_safe p n receiver as' (parts.One q) h = part_value_safe p n receiver as' q h
+some_value_safe p n receiver as' (parts.Two q r) h =
+    safe_takes n IsWithin _ (λ c. safe_if n IsWithin (is_even c) _ _ (part_value_safe p n receiver as' q h) (part_value_safe p n receiver as' r h))
+
 outcome_safe : (p : Program) (number : ℕ) (x : Native) (receiver : Option Value) (as' : List Argument) (site n : ℕ) (o : Outcome) → OptionWithin n receiver → ArgumentsWithin n as' → Safe n IsWithin (outcome_value p number x receiver as' site o)
-outcome_safe p number x receiver as' site n (meaning.gives (meaning.kind k ∷ [])) a b = kind_safe n k
-outcome_safe p number x receiver as' site n (meaning.new_list ps) a b =
-    safe_bind n AreWithin IsWithin (list_parts p (unwrap_or receiver none) (values as') ps) (λ vs. allocate (object.list site vs)) (list_parts_safe p n (unwrap_or receiver none) (values as') ps (values_within n as' b)) (λ vs k le w. safe_allocate k (object.list site vs) w)
-outcome_safe p number x receiver as' site n (meaning.new_tuple ps) a b =
-    safe_bind n AreWithin IsWithin (tuple_parts p (values as') ps) (λ vs. allocate (object.tuple site object.parts vs)) (tuple_parts_safe p n (values as') ps (values_within n as' b)) (λ vs k le w. safe_allocate k (object.tuple site object.parts vs) w)
-outcome_safe p number x receiver as' site n (meaning.new_dict ks others) a b = new_dict_safe p site n (unwrap_or receiver none) as' ks b
-outcome_safe p number x receiver as' site n (meaning.view ps) a b = view_within n site number receiver (values as') a (values_within n as' b)
-outcome_safe p number x receiver as' site n (meaning.pair_view first second) a b = view_within n site number receiver (values as') a (values_within n as' b)
-outcome_safe p number x receiver as' site n meaning.least_or_most a b = least_safe p n (values as') (values_within n as' b)
-outcome_safe p number x receiver as' site n meaning.tests_class a b = tells_safe p n (argument_or (values as') 0 none) (argument_or (values as') 1 none)
-outcome_safe p number x receiver as' site n meaning.fresh_object a b = safe_allocate n (object.outside (term.class (codes "object"))) tt
-outcome_safe p number x receiver as' site n meaning.instance_of_it a b = safe_allocate n (object.outside (term.class x.name)) tt
-outcome_safe p number x receiver as' site n _ a b = safe_anything n
+outcome_safe p number x receiver as' site n (outcome.Gives ps) a b = some_value_safe p n (unwrap_or receiver none) as' ps b
+outcome_safe p number x receiver as' site n (outcome.NewList ps) a b =
+    safe_bind n AreWithin IsWithin _ (λ vs. allocate (object.list site vs)) (all_values_safe p many many_safe (unwrap_or receiver none) as' n ps b) (λ vs k le w. safe_allocate k (object.list site vs) w)
+outcome_safe p number x receiver as' site n (outcome.NewTuple ps) a b =
+    safe_bind n AreWithin IsWithin _ (λ vs. allocate (object.tuple site object.parts vs)) (all_values_safe p three three_safe (unwrap_or receiver none) as' n ps b) (λ vs k le w. safe_allocate k (object.tuple site object.parts vs) w)
+outcome_safe p number x receiver as' site n (outcome.NewDict ks others) a b = new_dict_safe p site n (unwrap_or receiver none) as' ks others b
+outcome_safe p number x receiver as' site n (outcome.View ps) a b = view_within n site number receiver (values as') a (values_within n as' b)
+outcome_safe p number x receiver as' site n (outcome.PairView first second) a b = view_within n site number receiver (values as') a (values_within n as' b)
+outcome_safe p number x receiver as' site n outcome.LeastOrMost a b = least_safe p n (values as') (values_within n as' b)
+outcome_safe p number x receiver as' site n outcome.TestsClass a b = tells_safe p n (argument_or (values as') 0 none) (argument_or (values as') 1 none)
+outcome_safe p number x receiver as' site n outcome.FreshObject a b = safe_allocate n (object.outside (term.class (codes "object"))) tt
+outcome_safe p number x receiver as' site n outcome.InstanceOfIt a b = safe_allocate n (object.outside (term.class x.name)) tt
+outcome_safe p number x receiver as' site n outcome.TupleOfAnything a b = safe_allocate n (object.outside (term.tuple_of term.any)) tt
+outcome_safe p number x receiver as' site n outcome.NotFollowed a b = safe_anything n
 
 -- ---- effects
 
-entering_safe : (p : Program) (n : ℕ) (vs : List Value) (q : Part) → AreWithin n vs → Safe n AreWithin (entering p vs q)
-entering_safe p n vs (meaning.argument i) h = safe_gives_all n (argument_or vs i none ∷ []) (argument_within n vs i none h tt, tt)
-entering_safe p n vs (meaning.items i) h = given_safe p n (slice_get vs i) (get_within n vs i h)
-entering_safe p n vs _ h = safe_gives_all n [] tt
+entering_safe : (p : Program) (to : Place) (n : ℕ) (receiver : Value) (as' : List Argument) (es : List Effect) → ArgumentsWithin n as' → Safe n AreWithin (entering p to receiver as' es)
+entering_safe p to n receiver as' [] h = safe_gives_all n [] tt
+entering_safe p to n receiver as' (e ∷ es) h =
+    safe_if n AreWithin (same_place to e.place) _ _
+    (safe_bind n AreWithin AreWithin _ _ (part_values_safe p single single_safe receiver as' n e.part h) (λ vs k le w. safe_bind k AreWithin AreWithin _ _ (entering_safe p to k receiver as' es (arguments_on n k as' le h)) (λ ws j le' x.
+    safe_gives_all j (vs ++ ws) (are_append j vs ws (are_on k j vs le' w) x))))
+    (entering_safe p to n receiver as' es h)
 
 parts_added_safe : (place n : ℕ) (ws : List Value) (o : Object) → AreWithin n ws → ObjectWithin n o → Safe n Free (parts_added place ws o)
 parts_added_safe place n ws (object.list site vs) h k = safe_replace n place (object.list site (vs ++ ws)) (are_append n vs ws k h)
@@ -214,21 +279,23 @@ parts_added_safe place n ws _ h k = safe_done n
 pub add_parts_safe : (place n : ℕ) (ws : List Value) → AreWithin n ws → Safe n Free (add_parts place ws)
 add_parts_safe place n ws h = safe_at n Free place (parts_added place ws) (λ o k le w. parts_added_safe place k ws o (are_on n k ws le h) w)
 
-enter_all_safe : (p : Program) (place n : ℕ) (vs : List Value) (es : List Effect) → AreWithin n vs → Safe n Free (enter_all p place vs es)
-enter_all_safe p place n vs [] h = safe_done n
-enter_all_safe p place n vs (e ∷ es) h =
-    safe_then n Free Free (bind (entering p vs e.part) (add_parts place)) (enter_all p place vs es)
-    (safe_bind n AreWithin Free (entering p vs e.part) (add_parts place) (entering_safe p n vs e.part h) (λ ws k le w. add_parts_safe place k ws w)) (λ k le. enter_all_safe p place k vs es (are_on n k vs le h))
+paired_within : (n : ℕ) (ks vs : List Value) → AreWithin n ks → AreWithin n vs → PairsWithin n (paired ks vs)
+paired_within n [] vs h g = tt
+paired_within n (k ∷ ks) [] h g = tt
+paired_within n (k ∷ ks) (v ∷ vs) h g = (h.0, g.0, paired_within n ks vs h.1 g.1)
 
-effects_on_safe : (p : Program) (place n : ℕ) (vs : List Value) (es : List Effect) (o : Object) → AreWithin n vs → Safe n Free (effects_on p place vs es o)
-effects_on_safe p place n vs es (object.list site ws) h = enter_all_safe p place n vs es h
-effects_on_safe p place n vs es (object.dict site qs) h = safe_done n
-effects_on_safe p place n vs es _ h = safe_done n
+effects_on_safe : (p : Program) (place n : ℕ) (as' : List Argument) (es : List Effect) (o : Object) → ArgumentsWithin n as' → Safe n Free (effects_on p place as' es o)
+effects_on_safe p place n as' es (object.list site ws) h =
+    safe_bind n AreWithin Free _ (add_parts place) (entering_safe p into.Elements n (ref place) as' es h) (λ ws k le w. add_parts_safe place k ws w)
+effects_on_safe p place n as' es (object.dict site qs) h =
+    safe_bind n AreWithin Free _ _ (entering_safe p into.Keys n (ref place) as' es h) (λ ks k le w. safe_bind k AreWithin Free _ _ (entering_safe p into.Values k (ref place) as' es (arguments_on n k as' le h)) (λ vs j le' x.
+    add_pairs_safe place j (paired ks vs) (paired_within j ks vs (are_on k j ks le' w) x)))
+effects_on_safe p place n as' es _ h = safe_done n
 
-effects_safe : (p : Program) (n : ℕ) (receiver : Option Value) (vs : List Value) (es : List Effect) → AreWithin n vs → Safe n Free (do_effects p receiver vs es)
-effects_safe p n (Some (ref place)) vs es h = safe_at n Free place (effects_on p place vs es) (λ o k le w. effects_on_safe p place k vs es o (are_on n k vs le h))
-effects_safe p n None vs es h = safe_done n
-effects_safe p n _ vs es h = safe_done n
+effects_safe : (p : Program) (n : ℕ) (receiver : Option Value) (as' : List Argument) (es : List Effect) → ArgumentsWithin n as' → Safe n Free (do_effects p receiver as' es)
+effects_safe p n (Some (ref place)) as' es h = safe_at n Free place (effects_on p place as' es) (λ o k le w. effects_on_safe p place k as' es o (arguments_on n k as' le h))
+effects_safe p n None as' es h = safe_done n
+effects_safe p n _ as' es h = safe_done n
 
 -- ---- single parts
 
@@ -343,27 +410,27 @@ updates_safe p place n vs _ a = none_safe n
 
 -- ---- calls of natives
 
-by_row_safe : (p : Program) (number : ℕ) (x : Native) (receiver : Option Value) (as' : List Argument) (site n : ℕ) → OptionWithin n receiver → ArgumentsWithin n as' → Safe n IsWithin (do_by_row p number x receiver as' site)
-by_row_safe p number x receiver as' site n a b =
-    safe_then n Free IsWithin (do_effects p receiver (values as') x.effects) (outcome_value p number x receiver as' site x.outcome) (effects_safe p n receiver (values as') x.effects (values_within n as' b)) (λ k le.
-    outcome_safe p number x receiver as' site k x.outcome (option_on n k receiver le a) (arguments_on n k as' le b))
+by_parts_safe : (p : Program) (number : ℕ) (x : Native) (receiver : Option Value) (as' : List Argument) (site n : ℕ) → OptionWithin n receiver → ArgumentsWithin n as' → Safe n IsWithin (do_by_parts p number x receiver as' site)
+by_parts_safe p number x receiver as' site n a b =
+    safe_then n Free IsWithin (do_effects p receiver as' (effects_of x.deed)) (outcome_value p number x receiver as' site (outcome_of x.deed)) (effects_safe p n receiver as' (effects_of x.deed) b) (λ k le.
+    outcome_safe p number x receiver as' site k (outcome_of x.deed) (option_on n k receiver le a) (arguments_on n k as' le b))
 
 deed_safe : (p : Program) (number : ℕ) (x : Native) (place : ℕ) (as' : List Argument) (site n : ℕ) (o : Object) (d : Deed) → IsWithin n (ref place) → ArgumentsWithin n as' → ObjectWithin n o → Safe n IsWithin (do_deed p number x place as' site o d)
-deed_safe p number x place as' site n o by_its_row a b h = by_row_safe p number x (Some (ref place)) as' site n a b
-deed_safe p number x place as' site n o insert_deed a b h = inserts_safe place n (argument_or (values as') 1 none) o (argument_within n (values as') 1 none (values_within n as' b) tt) h
-deed_safe p number x place as' site n o pop_deed a b h = pops_safe p place n o h
-deed_safe p number x place as' site n o remove_deed a b h = removes_safe place n o h
-deed_safe p number x place as' site n o clear_deed a b h = clears_safe place n o
-deed_safe p number x place as' site n o get_deed a b h = gets_safe p n (values as') o (values_within n as' b) h
-deed_safe p number x place as' site n o pop_pair_deed a b h = pops_pair_safe p place n (values as') o (values_within n as' b) h
-deed_safe p number x place as' site n o default_deed a b h = default_safe p place n (values as') o (values_within n as' b) h
-deed_safe p number x place as' site n o update_deed a b h = updates_safe p place n (values as') o (values_within n as' b)
+deed_safe p number x place as' site n o (deed.ByParts es out) a b h = by_parts_safe p number x (Some (ref place)) as' site n a b
+deed_safe p number x place as' site n o deed.Inserts a b h = inserts_safe place n (argument_or (values as') 1 none) o (argument_within n (values as') 1 none (values_within n as' b) tt) h
+deed_safe p number x place as' site n o deed.PopsPart a b h = pops_safe p place n o h
+deed_safe p number x place as' site n o deed.RemovesPart a b h = removes_safe place n o h
+deed_safe p number x place as' site n o deed.Clears a b h = clears_safe place n o
+deed_safe p number x place as' site n o deed.GetsValue a b h = gets_safe p n (values as') o (values_within n as' b) h
+deed_safe p number x place as' site n o deed.PopsPair a b h = pops_pair_safe p place n (values as') o (values_within n as' b) h
+deed_safe p number x place as' site n o deed.SetsDefault a b h = default_safe p place n (values as') o (values_within n as' b) h
+deed_safe p number x place as' site n o deed.Updates a b h = updates_safe p place n (values as') o (values_within n as' b)
 
 native_safe : (p : Program) (number : ℕ) (x : Native) (receiver : Option Value) (as' : List Argument) (site n : ℕ) → OptionWithin n receiver → ArgumentsWithin n as' → Safe n IsWithin (do_native p number x receiver as' site)
 native_safe p number x (Some (ref place)) as' site n a b =
-    safe_at n IsWithin place (λ o. do_deed p number x place as' site o (deed_of o x.name)) (λ o k le w. deed_safe p number x place as' site k o (deed_of o x.name) (within_on n k (ref place) le a) (arguments_on n k as' le b) w)
-native_safe p number x None as' site n a b = by_row_safe p number x None as' site n a b
-native_safe p number x (Some v) as' site n a b = by_row_safe p number x (Some v) as' site n a b
+    safe_at n IsWithin place (λ o. do_deed p number x place as' site o x.deed) (λ o k le w. deed_safe p number x place as' site k o x.deed (within_on n k (ref place) le a) (arguments_on n k as' le b) w)
+native_safe p number x None as' site n a b = by_parts_safe p number x None as' site n a b
+native_safe p number x (Some v) as' site n a b = by_parts_safe p number x (Some v) as' site n a b
 
 fault_or : (n line : ℕ) (o : Option FaultKind) (a : Action Value) → Safe n IsWithin a → Safe n IsWithin (elim o [ Some f ↦ fails line f | None ↦ a ])
 fault_or n line None a h = h
@@ -387,7 +454,7 @@ name_sort n _ a b h k = k
 
 native_value_safe : (n number : ℕ) (o : Option Native) → Safe n IsWithin (native_value number o)
 native_value_safe n number None = safe_anything n
-native_value_safe n number (Some x) = name_sort n x.sort fresh_text (allocate (object.foreign (builtin number))) (text_safe n) (safe_allocate n (object.foreign (builtin number)) tt)
+native_value_safe n number (Some x) = name_sort n x.sort (value_of_row x) (allocate (object.foreign (builtin number))) (row_value_safe n x) (safe_allocate n (object.foreign (builtin number)) tt)
 
 pub builtin_value_safe : (n : ℕ) (name : List ℕ) → Safe n IsWithin (builtin_value name)
 builtin_value_safe n name =

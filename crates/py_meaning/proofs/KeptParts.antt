@@ -6,6 +6,9 @@ use Rattle.builtin_stubs.specs.declared.basic.Basic.{Basic}
 use Rattle.builtin_stubs.specs.declared.basic.Basic.TheVariants as kind
 use Rattle.builtin_stubs.specs.declared.native.NativeSort.{NativeSort}
 use Rattle.builtin_stubs.specs.declared.native.NativeSort.TheVariants as sort
+use Rattle.builtin_stubs.specs.declared.parts.Part.{Part}
+use Rattle.builtin_stubs.specs.declared.parts.Part.TheVariants as part
+use Rattle.builtin_stubs.specs.Kinds.{part_of as part_of_kind, kind_of_instance, kind_of_term}
 use Rattle.builtin_stubs.specs.Meanings.{Native}
 use Rattle.builtin_stubs.specs.Natives.{natives, method_number, function_number}
 use Rattle.type_terms.specs.BuiltinNames.{is_instance_name}
@@ -17,17 +20,18 @@ use Rattle.py_meaning.specs.Objects.{Object, Foreign, builtin, stub_fun, stub_cl
 use Rattle.py_meaning.specs.Events.{Holder, on_instance, on_class, on_another, unsupported_operands}
 use Rattle.py_meaning.specs.Programs.{Program, chain, exception_base, or_else, text_at}
 use Rattle.py_meaning.specs.StubItems.{StubClass, stub_class_at, stub_at, Item, of_type, a_function, a_class, a_method, item_in, member_of, bases, exceptions_above}
+use Rattle.py_meaning.specs.Fresh.{value_of_row}
 use Rattle.py_meaning.specs.Contents.{Content, contents, pairs, Pair, read}
 use Rattle.py_meaning.specs.Iteration.{Step, no_items, ended, element, iterate}
 use Rattle.py_meaning.specs.Subscripts as subscript
-use Rattle.py_meaning.specs.Subscripts.{read_one, part_of, value_in, read_kind, read_item, store_part, with_pair, store_pair, store_item, sliced, slice_object, read_slice, unpacked, place_at, part_from, unpack_one, unpack_from, unpack}
+use Rattle.py_meaning.specs.Subscripts.{read_one, part_of, value_in, value_at, read_part, read_item, store_part, with_pair, store_pair, store_item, sliced, slice_object, read_slice, unpacked, place_at, part_from, unpack_one, unpack_from, unpack}
 use Rattle.py_meaning.specs.Attributes as attribute
 use Rattle.py_meaning.specs.Attributes.{lacks, is_init, members_if, members_of, look_up, bound_object, bound_to, base_init, native_attribute, kind_attribute, otherwise_of_instance, instance_attribute, class_attribute, item_value, module_attribute, member_value, after_bases, stub_attribute, foreign_attribute, outside_attribute, object_attribute, read_attribute, takes_attributes, store_attribute, after_class, first_binding, super_member, super_of_object, super_attribute}
 use Rattle.py_meaning.specs.ClassTests.{Test, yes_it_has, no_it_lacks, perhaps, decided, test_class, class_of_object, tuple_parts, some_part, part_test, may_match_with, may_match, tuple_test, object_test, matches_object, matches, may_pass}
 use Rattle.py_meaning.specs.Actions.{Memory, Action, gives, looks, bind, allocate, replace, anything, is_even, pick, one_of, raise_builtin}
 use Rattle.py_meaning.specs.References.{IsWithin, AreWithin, EntriesWithin, PairsWithin, OptionWithin, ObjectWithin, ObjectsWithin}
 use Rattle.py_meaning.proofs.Kept.{within_on, are_on, pairs_on, object_on, size, Good, Safe, Free, safe_bind, safe_takes, safe_looks, safe_if, safe_allocate, safe_done, safe_replace, safe_at, object_within, safe_pick, safe_anything, safe_raise, safe_fails, safe_tells, safe_may, safe_option, safe_found, safe_gives, safe_gives_all, get_within, set_within, entry_within, with_entry_within}
-use Rattle.py_meaning.proofs.KeptValues.{whole_safe, text_safe, octets_safe, fresh_safe, ContentWithin, ContentsWithin, ContentPairsWithin, contents_on, contents_within, contents_at_within, content_pairs_within, read_safe, read_all_safe, StepWithin, iterate_safe, drain_safe}
+use Rattle.py_meaning.proofs.KeptValues.{text_safe, octets_safe, kind_safe, row_value_safe, fresh_safe, ContentWithin, ContentsWithin, ContentPairsWithin, contents_on, contents_within, contents_at_within, content_pairs_within, read_safe, read_all_safe, StepWithin, iterate_safe, drain_safe}
 
 -- ---- subscripts: what is read
 
@@ -79,22 +83,22 @@ value_in_safe : (p : Program) (n : ℕ) (o : Object) → ObjectWithin n o → Sa
 value_in_safe p n o h =
     safe_bind n OnePairWithin IsWithin _ _ (safe_bind n Free OnePairWithin (pick (length (pairs o))) _ (safe_pick n _) (λ i k le w. pair_gives k _ (one_pair_within k (pairs o) i (content_pairs_later n k o le h)))) (λ q k le w. value_of_pair p k q w)
 
-dict_safe : (p : Program) (m : Memory) (v : Value) (line : ℕ) → Good m → Safe (size m) IsWithin (read_kind p m.heap v kind.Dict line)
+dict_safe : (p : Program) (m : Memory) (v : Value) (line : ℕ) → Good m → Safe (size m) IsWithin (value_at p m.heap v line)
 dict_safe p m (ref place) line good = value_in_safe p (size m) (object_at m.heap place) (object_within m place good)
 dict_safe p m none line good = safe_fails (size m) IsWithin line _
 dict_safe p m _ line good = safe_fails (size m) IsWithin line _
 
-read_kind_safe : (p : Program) (m : Memory) (v : Value) (k : Basic) (line : ℕ) → Good m → Safe (size m) IsWithin (read_kind p m.heap v k line)
-read_kind_safe p m v kind.Str line good = text_safe (size m)
-read_kind_safe p m v kind.Bytes line good = whole_safe (size m)
-read_kind_safe p m v kind.Dict line good = dict_safe p m v line good
-read_kind_safe p m v kind.NoneKind line good = part_safe p (size m) _ (contents_at_within m v good)
-read_kind_safe p m v k line good = part_safe p (size m) _ (contents_at_within m v good)
+read_part_safe : (p : Program) (m : Memory) (v : Value) (line : ℕ) (o : Option Part) → Good m → Safe (size m) IsWithin (read_part p m.heap v line o)
+read_part_safe p m v line (Some (part.Kind k)) good = kind_safe (size m) k
+read_part_safe p m v line (Some part.OwnElements) good = part_safe p (size m) _ (contents_at_within m v good)
+read_part_safe p m v line (Some part.OwnValues) good = dict_safe p m v line good
+read_part_safe p m v line None good = safe_fails (size m) IsWithin line _
+read_part_safe p m v line _ good = safe_fails (size m) IsWithin line _
 
 pub read_item_safe : (p : Program) (line n : ℕ) (v i : Value) → Safe n IsWithin (read_item p line v i)
 read_item_safe p line n v i =
     safe_looks n IsWithin _ (λ m good le. safe_if (size m) IsWithin (object.is_unfollowed_at m.heap v) _ _ (safe_anything (size m))
-    (safe_if (size m) IsWithin (subscript.fits_index m.heap v i) _ _ (read_kind_safe p m v (object.kind_of m.heap v) line good) (safe_fails (size m) IsWithin line unsupported_operands)))
+    (safe_if (size m) IsWithin (subscript.fits_index m.heap v i) _ _ (read_part_safe p m v line (part_of_kind (object.kind_of m.heap v)) good) (safe_fails (size m) IsWithin line unsupported_operands)))
 
 -- ---- subscripts: what is stored
 
@@ -229,7 +233,7 @@ sort_safe n _ a b h k = k
 
 native_attribute_safe : (n : ℕ) (receiver : Value) (number : ℕ) (o : Option Native) → IsWithin n receiver → Safe n IsWithin (native_attribute receiver number o)
 native_attribute_safe n receiver number None a = safe_anything n
-native_attribute_safe n receiver number (Some x) a = sort_safe n x.sort (allocate (object.outside (term.tuple_of term.any))) (allocate (object.bound_foreign receiver (builtin number))) (safe_allocate n _ tt) (safe_allocate n _ a)
+native_attribute_safe n receiver number (Some x) a = sort_safe n x.sort (value_of_row x) (allocate (object.bound_foreign receiver (builtin number))) (row_value_safe n x) (safe_allocate n _ a)
 
 kind_attribute_safe : (p : Program) (line n : ℕ) (receiver : Value) (k : Basic) (holder : Holder) (name : ℕ) → IsWithin n receiver → Safe n IsWithin (kind_attribute p line receiver k holder name)
 kind_attribute_safe p line n receiver k holder name a =
@@ -293,9 +297,9 @@ foreign_attribute_safe line n (stub_method home c own) name = lacks_safe n IsWit
 outside_attribute_safe : (p : Program) (line n : ℕ) (receiver : Value) (t : Term) (name : ℕ) → IsWithin n receiver → Safe n IsWithin (outside_attribute p line receiver t name)
 outside_attribute_safe p line n receiver term.any name a = safe_anything n
 outside_attribute_safe p line n receiver (term.class own) name a =
-    safe_if n IsWithin (is_instance_name own) _ _ (kind_attribute_safe p line n receiver (object.kind_of_instance own) on_another name a)
+    safe_if n IsWithin (is_instance_name own) _ _ (kind_attribute_safe p line n receiver (kind_of_instance own) on_another name a)
     (safe_option n IsWithin (stub_class_at p own) (λ k. stub_attribute p line receiver k name) anything (λ k. stub_attribute_safe p line n receiver k name a) (safe_anything n))
-outside_attribute_safe p line n receiver t name a = kind_attribute_safe p line n receiver (object.kind_of_term t) on_another name a
+outside_attribute_safe p line n receiver t name a = kind_attribute_safe p line n receiver (kind_of_term t) on_another name a
 
 object_attribute_safe : (p : Program) (line n : ℕ) (v : Value) (name : ℕ) (o : Object) → IsWithin n v → ObjectWithin n o → Safe n IsWithin (object_attribute p line v name o)
 object_attribute_safe p line n v name (object.instance c es) a h = instance_attribute_safe p line n v c es name a h

@@ -10,21 +10,28 @@ use Rattle.place_ids.specs.declared.operators.CompareOp.TheVariants as cmp
 use Rattle.place_ids.specs.declared.operators.UnaryOp.{UnaryOp}
 use Rattle.builtin_stubs.specs.declared.basic.Basic.{Basic}
 use Rattle.builtin_stubs.specs.declared.basic.Basic.TheVariants as kind
-use Rattle.builtin_stubs.specs.Meanings.{Native, Outcome, view, pair_view, kind as of_a_kind, items, own_keys, own_values}
+use Rattle.builtin_stubs.specs.declared.parts.Outcome.{Outcome}
+use Rattle.builtin_stubs.specs.declared.parts.Outcome.TheVariants as outcome
+use Rattle.builtin_stubs.specs.declared.parts.Part.{Part}
+use Rattle.builtin_stubs.specs.declared.parts.Part.TheVariants as part
+use Rattle.builtin_stubs.specs.declared.parts.Parts.{Parts}
+use Rattle.builtin_stubs.specs.declared.parts.Parts.TheVariants as parts
+use Rattle.builtin_stubs.specs.Kinds.{items_of as items_of_kind, kind_of_term}
+use Rattle.builtin_stubs.specs.Meanings.{Native, outcome_of}
 use Rattle.builtin_stubs.specs.Natives.{function_number}
 use Rattle.type_terms.specs.Terms as term
 use Rattle.type_terms.specs.Terms.{Term, Terms, list_of}
-use Rattle.py_meaning.specs.Values.{Value, none, float, text, octets, ref}
+use Rattle.py_meaning.specs.Values.{Value, none, float, ref}
 use Rattle.py_meaning.specs.Objects as object
-use Rattle.py_meaning.specs.Objects.{Object, object_at}
+use Rattle.py_meaning.specs.Objects.{Object, object_at, kind_of}
 use Rattle.py_meaning.specs.Programs.{Program}
 use Rattle.py_meaning.specs.StubItems.{StubClass, stub_class_at}
 use Rattle.py_meaning.specs.Fresh as f
-use Rattle.py_meaning.specs.Fresh.{fresh_whole, fresh_text, fresh_octets, fresh_instance, stub_class_value, class_value, fresh, fresh_member, of_kind}
+use Rattle.py_meaning.specs.Fresh.{fresh_whole, fresh_text, fresh_octets, fresh_instance, stub_class_value, class_value, fresh, fresh_member, of_kind, of_one_kind, value_of_row}
 use Rattle.py_meaning.specs.Contents.{Content, held, declared, contents, contents_at, Pair, pairs, held_pair, read, read_all, read_pair, read_pairs}
 use Rattle.py_meaning.specs.Operators.{times, repeated, gathered, made, by_row, binary, unary, known_truth, ordered, within, compare}
-use Rattle.py_meaning.specs.Iteration.{Step, no_items, ended, element, on_element, stepped, among, by_parity, of_places, step_of_term, values_of, pair_of, paired, pairs_of, at_value, paired_with, numbered, argument_at, step_of_view, step_of_native, step_of_object, step_of, iterate_in, iterate, drain_in, drain, items_of_object, items_of}
-use Rattle.py_meaning.specs.Actions.{Memory, Action, gives}
+use Rattle.py_meaning.specs.Iteration.{Step, no_items, ended, element, on_element, stepped, among, by_parity, of_places, declared_step, step_of_term, values_of, pair_of, paired, pairs_of, at_value, paired_with, numbered, argument_at, step_of_view, step_of_native, step_of_object, step_of, iterate_in, iterate, drain_in, drain, items_of_object, items_of}
+use Rattle.py_meaning.specs.Actions.{Memory, Action, gives, allocate, anything}
 use Rattle.py_meaning.specs.References.{IsWithin, AreWithin, PairsWithin, OptionWithin, ObjectWithin}
 use Rattle.py_meaning.proofs.Kept.{within_on, are_on, pairs_on, size, Good, Safe, Free, safe_bind, safe_takes, safe_counts, safe_looks, safe_if, safe_allocate, safe_at, object_within, safe_pick, safe_anything, safe_either, safe_fails, safe_one, safe_option, safe_gives, safe_gives_all, safe_gives_pairs, are_append, get_within, or_within, firsts_within, seconds_within, PairWithin, pair_within}
 
@@ -84,6 +91,18 @@ kind_safe n kind.Str = text_safe n
 kind_safe n kind.Bytes = octets_safe n
 kind_safe n kind.Range = safe_allocate n _ tt
 kind_safe n _ = safe_anything n
+
+one_kind_safe : (n : ℕ) (ps : Parts) → Safe n IsWithin (of_one_kind ps)
+one_kind_safe n (parts.One (part.Kind k)) = kind_safe n k
+one_kind_safe n _ = safe_anything n
+
+by_outcome_safe : (n : ℕ) (o : Outcome) → Safe n IsWithin (elim o [ outcome.TupleOfAnything ↦ allocate (object.outside (term.tuple_of term.any)) | outcome.Gives ps ↦ of_one_kind ps | _ ↦ anything ])
+by_outcome_safe n outcome.TupleOfAnything = safe_allocate n _ tt
+by_outcome_safe n (outcome.Gives ps) = one_kind_safe n ps
+by_outcome_safe n _ = safe_anything n
+
+pub row_value_safe : (n : ℕ) (x : Native) → Safe n IsWithin (value_of_row x)
+row_value_safe n x = by_outcome_safe n (outcome_of x.deed)
 
 -- ---- parts
 
@@ -259,17 +278,21 @@ places_safe : (p : Program) (n : ℕ) (ts : Terms) → Safe n StepWithin (of_pla
 places_safe p n term.no_terms = safe_step n ended tt
 places_safe p n (term.term t ts) = parity_safe n _ (safe_bind n Free IsWithin _ _ (safe_pick n (f.size (term.term t ts))) (λ i k le h. fresh_member_safe p (term.term t ts) i k))
 
+declared_step_safe : (p : Program) (n : ℕ) (o : Option Part) (t : Term) → Safe n StepWithin (declared_step p o t)
+declared_step_safe p n (Some (part.Kind k)) t = parity_safe n _ (kind_safe n k)
+declared_step_safe p n (Some part.OwnElements) (term.list t) = parity_safe n _ (fresh_safe p t n)
+declared_step_safe p n (Some part.OwnElements) (term.tuple ts) = places_safe p n ts
+declared_step_safe p n (Some part.OwnElements) (term.tuple_of t) = parity_safe n _ (fresh_safe p t n)
+declared_step_safe p n (Some part.OwnKeys) (term.dict t u) = parity_safe n _ (fresh_safe p t n)
+declared_step_safe p n (Some part.OwnValues) (term.dict t u) = parity_safe n _ (fresh_safe p u n)
+declared_step_safe p n _ _ = safe_step n no_items tt
+
 term_step_safe : (p : Program) (n : ℕ) (t : Term) → Safe n StepWithin (step_of_term p t)
-term_step_safe p n (term.list t) = parity_safe n _ (fresh_safe p t n)
-term_step_safe p n (term.dict t u) = parity_safe n _ (fresh_safe p t n)
-term_step_safe p n (term.tuple ts) = places_safe p n ts
-term_step_safe p n (term.tuple_of t) = parity_safe n _ (fresh_safe p t n)
-term_step_safe p n (term.class name) = safe_if n StepWithin (bytes_eq name (codes "range")) _ _ (parity_safe n _ (whole_safe n)) (safe_step n no_items tt)
-term_step_safe p n _ = safe_step n no_items tt
+term_step_safe p n t = declared_step_safe p n (items_of_kind (kind_of_term t)) t
 
 values_safe : (p : Program) (n : ℕ) (o : Object) → ObjectWithin n o → Safe n StepWithin (values_of p o)
 values_safe p n (object.dict site qs) h = among_safe n _ (seconds_within n qs h)
-values_safe p n (object.outside (term.dict t u)) h = parity_safe n _ (fresh_safe p u n)
+values_safe p n (object.outside t) h = declared_step_safe p n (Some part.OwnValues) t
 values_safe p n _ h = safe_step n no_items tt
 
 pair_safe : (site n : ℕ) (v w : Value) → IsWithin n v → IsWithin n w → Safe n IsWithin (pair_of site v w)
@@ -305,24 +328,24 @@ paired_with_safe site n a b h g =
     (safe_step j ended tt)))
     (safe_step k ended tt))
 
-numbered_safe : (site n : ℕ) (a : Action Step) → Safe n StepWithin a → Safe n StepWithin (numbered site a)
-numbered_safe site n a h =
+numbered_safe : (site n : ℕ) (b : Basic) (a : Action Step) → Safe n StepWithin a → Safe n StepWithin (numbered site b a)
+numbered_safe site n b a h =
     safe_bind n StepWithin StepWithin _ _ h (λ one k le w. element_safe k StepWithin one _ _ w
-    (λ v x. safe_bind k IsWithin StepWithin _ _ (whole_safe k) (λ i j le' y. safe_bind j IsWithin StepWithin _ _ (pair_safe site j i v y (within_on k j v le' x)) (λ q l le'' r. safe_step l (element q) r)))
+    (λ v x. safe_bind k IsWithin StepWithin _ _ (kind_safe k b) (λ i j le' y. safe_bind j IsWithin StepWithin _ _ (pair_safe site j i v y (within_on k j v le' x)) (λ q l le'' r. safe_step l (element q) r)))
     (safe_step k ended tt))
 
 view_safe : (p : Program) (inner : Value → Action Step) (site n : ℕ) (receiver : Value) (vs : List Value) (o : Outcome) → Iterates inner → IsWithin n receiver → AreWithin n vs → Safe n StepWithin (step_of_view p inner site receiver vs o)
-view_safe p inner site n receiver vs (view (own_keys ∷ [])) it h k = it receiver n h
-view_safe p inner site n receiver vs (view (own_values ∷ [])) it h k = at_value_safe n receiver _ (λ o j le w. values_safe p j o w)
-view_safe p inner site n receiver vs (pair_view (own_keys ∷ []) (own_values ∷ [])) it h k = at_value_safe n receiver _ (λ o j le w. pairs_step_safe p site j o w)
-view_safe p inner site n receiver vs (pair_view (of_a_kind b ∷ []) (items i ∷ [])) it h k = numbered_safe site n _ (it (argument_at vs i) n (argument_within n vs i k))
-view_safe p inner site n receiver vs (pair_view (items i ∷ []) (items j ∷ [])) it h k =
+view_safe p inner site n receiver vs (outcome.View (parts.One part.OwnKeys)) it h k = it receiver n h
+view_safe p inner site n receiver vs (outcome.View (parts.One part.OwnValues)) it h k = at_value_safe n receiver _ (λ o j le w. values_safe p j o w)
+view_safe p inner site n receiver vs (outcome.PairView (parts.One part.OwnKeys) (parts.One part.OwnValues)) it h k = at_value_safe n receiver _ (λ o j le w. pairs_step_safe p site j o w)
+view_safe p inner site n receiver vs (outcome.PairView (parts.One (part.Kind b)) (parts.One (part.Items i))) it h k = numbered_safe site n b _ (it (argument_at vs i) n (argument_within n vs i k))
+view_safe p inner site n receiver vs (outcome.PairView (parts.One (part.Items i)) (parts.One (part.Items j))) it h k =
     paired_with_safe site n _ _ (it (argument_at vs i) n (argument_within n vs i k)) (λ l le. it (argument_at vs j) l (argument_within l vs j (are_on n l vs le k)))
 view_safe p inner site n receiver vs _ it h k = safe_step n ended tt
 
 native_step_safe : (p : Program) (inner : Value → Action Step) (site n : ℕ) (receiver : Value) (vs : List Value) (o : Option Native) → Iterates inner → IsWithin n receiver → AreWithin n vs → Safe n StepWithin (step_of_native p inner site receiver vs o)
 native_step_safe p inner site n receiver vs None it h k = safe_step n ended tt
-native_step_safe p inner site n receiver vs (Some x) it h k = view_safe p inner site n receiver vs x.outcome it h k
+native_step_safe p inner site n receiver vs (Some x) it h k = view_safe p inner site n receiver vs (outcome_of x.deed) it h k
 
 object_step_safe : (p : Program) (inner : Value → Action Step) (n : ℕ) (o : Object) → Iterates inner → ObjectWithin n o → Safe n StepWithin (step_of_object p inner o)
 object_step_safe p inner n (object.list site vs) it h = among_safe n vs h
@@ -333,10 +356,9 @@ object_step_safe p inner n (object.outside t) it h = safe_if n StepWithin (objec
 object_step_safe p inner n _ it h = safe_step n no_items tt
 
 step_safe : (p : Program) (inner : Value → Action Step) → Iterates inner → Iterates (step_of p inner)
-step_safe p inner it (text e) n h = parity_safe n _ (text_safe n)
-step_safe p inner it (octets e) n h = parity_safe n _ (whole_safe n)
 step_safe p inner it (ref place) n h = safe_at n StepWithin place _ (λ o k le w. object_step_safe p inner k o it w)
-step_safe p inner it _ n h = safe_step n no_items tt
+step_safe p inner it none n h = declared_step_safe p n (items_of_kind (kind_of [] none)) term.any
+step_safe p inner it v n h = declared_step_safe p n (items_of_kind (kind_of [] v)) term.any
 
 iterate_in_safe : (p : Program) (fuel : ℕ) → Iterates (iterate_in p fuel)
 iterate_in_safe p zero v n h = step_safe p (λ w. gives ended) (λ w k x. safe_step k ended tt) v n h

@@ -15,3 +15,4 @@ pub mod KeptNatives
 pub mod KeptStatements
 pub mod KeptRuns
 mod Belonging
+pub mod RowKinds

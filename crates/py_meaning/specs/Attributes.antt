@@ -6,6 +6,7 @@ use Rattle.std.specs.Str.{bytes_eq}
 use Rattle.builtin_stubs.specs.declared.basic.Basic.{Basic}
 use Rattle.builtin_stubs.specs.declared.basic.Basic.TheVariants as kind
 use Rattle.builtin_stubs.specs.declared.native.NativeSort.TheVariants as sort
+use Rattle.builtin_stubs.specs.Kinds.{kind_of_instance, kind_of_term}
 use Rattle.builtin_stubs.specs.Meanings.{Native}
 use Rattle.builtin_stubs.specs.Natives.{natives, method_number, function_number}
 use Rattle.type_terms.specs.BuiltinNames.{is_instance_name}
@@ -17,7 +18,7 @@ use Rattle.py_meaning.specs.Objects.{Object, Foreign, builtin, stub_fun, stub_cl
 use Rattle.py_meaning.specs.Events.{Holder, on_instance, on_class, on_another, fault, attribute_error}
 use Rattle.py_meaning.specs.Programs.{Program, text_at, chain, exception_base, binds, or_else}
 use Rattle.py_meaning.specs.StubItems.{StubClass, stub_class_at, stub_at, Item, of_type, a_function, a_class, a_method, item_in, member_of, bases, exceptions_above}
-use Rattle.py_meaning.specs.Fresh.{fresh}
+use Rattle.py_meaning.specs.Fresh.{fresh, value_of_row}
 use Rattle.py_meaning.specs.Actions.{Action, gives, looks, tells, allocate, replace, anything, at_place, raise_builtin, done}
 
 abbrev pub lacks : {A : Type 0} → (line : ℕ) → Holder → (name : ℕ) → Action A
@@ -56,11 +57,11 @@ bound_to receiver v = gives v
 abbrev pub base_init : Action Value
 base_init = elim (function_number (codes "base_init")) [ Some n ↦ allocate (object.foreign (builtin n)) | None ↦ anything ]
 
--- `args` is no method: it is a tuple of anything
+-- `args` is no method: it is read, and never called
 abbrev pub native_attribute : (receiver : Value) → ℕ → Option Native → Action Value
 native_attribute receiver number None = anything
 native_attribute receiver number (Some n) =
-    elim n.sort [ sort.Value ↦ allocate (object.outside (term.tuple_of term.any)) | _ ↦ allocate (object.bound_foreign receiver (builtin number)) ]
+    elim n.sort [ sort.Value ↦ value_of_row n | _ ↦ allocate (object.bound_foreign receiver (builtin number)) ]
 
 abbrev pub kind_attribute : Program → (line : ℕ) → (receiver : Value) → Basic → Holder → (name : ℕ) → Action Value
 kind_attribute p line receiver k holder name =
@@ -136,9 +137,9 @@ foreign_attribute line _ name = lacks line on_another name
 abbrev pub outside_attribute : Program → (line : ℕ) → (receiver : Value) → term.Term → (name : ℕ) → Action Value
 outside_attribute p line receiver term.any name = anything
 outside_attribute p line receiver (term.class own) name =
-    if is_instance_name own then kind_attribute p line receiver (object.kind_of_instance own) on_another name
+    if is_instance_name own then kind_attribute p line receiver (kind_of_instance own) on_another name
     else elim (stub_class_at p own) [ Some k ↦ stub_attribute p line receiver k name | None ↦ anything ]
-outside_attribute p line receiver t name = kind_attribute p line receiver (object.kind_of_term t) on_another name
+outside_attribute p line receiver t name = kind_attribute p line receiver (kind_of_term t) on_another name
 
 -- ---- any value
 

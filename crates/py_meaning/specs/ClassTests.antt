@@ -3,9 +3,9 @@
 use Rattle.std.specs.Prelude.{ℕ, zero, suc, Bool, true, false, ◌||◌, nat_eq, List, [], ◌∷◌, length, Option, Some, None, slice_get, if◌then◌else◌, codes}
 use Rattle.std.specs.List.{list_any}
 use Rattle.std.specs.Str.{bytes_eq}
-use Rattle.builtin_stubs.specs.declared.basic.Basic.{Basic}
 use Rattle.builtin_stubs.specs.declared.basic.Basic.TheVariants as kind
 use Rattle.builtin_stubs.specs.declared.native.NativeSort.TheVariants as sort
+use Rattle.builtin_stubs.specs.Kinds.{classes_of}
 use Rattle.builtin_stubs.specs.Meanings.{Native}
 use Rattle.builtin_stubs.specs.Natives.{natives}
 use Rattle.type_terms.specs.BuiltinNames.{has_name}
@@ -137,19 +137,6 @@ matches p v k = decided perhaps
 
 -- ---- `isinstance`
 
--- the builtin classes that a kind's values are instances of, but for `object`
-abbrev pub classes_of_kind : Basic → List (List ℕ)
-classes_of_kind kind.Bool = codes "bool" ∷ codes "int" ∷ []
-classes_of_kind kind.Int = codes "int" ∷ []
-classes_of_kind kind.Float = codes "float" ∷ []
-classes_of_kind kind.Str = codes "str" ∷ []
-classes_of_kind kind.Bytes = codes "bytes" ∷ []
-classes_of_kind kind.List = codes "list" ∷ []
-classes_of_kind kind.Dict = codes "dict" ∷ []
-classes_of_kind kind.Tuple = codes "tuple" ∷ []
-classes_of_kind kind.Range = codes "range" ∷ []
-classes_of_kind _ = []
-
 -- whether a class is one of these, where it isn't known of a class of a stub that isn't
 abbrev pub test_named : List (List ℕ) → Class → Test
 test_named names (of_module d) = no_it_lacks
@@ -169,25 +156,25 @@ abbrev pub test_chain : List (List ℕ) → Class → Test
 test_chain names k = if has_exception names then test_named names k else perhaps
 
 abbrev pub test_term : Program → Term → Class → Test
-test_term p (term.list t) k = test_named (classes_of_kind kind.List) k
-test_term p (term.dict t u) k = test_named (classes_of_kind kind.Dict) k
-test_term p (term.tuple ts) k = test_named (classes_of_kind kind.Tuple) k
-test_term p (term.tuple_of t) k = test_named (classes_of_kind kind.Tuple) k
-test_term p (term.class name) k = if bytes_eq name (codes "range") then test_named (classes_of_kind kind.Range) k else test_chain (chain_named p name) k
+test_term p (term.list t) k = test_named (classes_of kind.List) k
+test_term p (term.dict t u) k = test_named (classes_of kind.Dict) k
+test_term p (term.tuple ts) k = test_named (classes_of kind.Tuple) k
+test_term p (term.tuple_of t) k = test_named (classes_of kind.Tuple) k
+test_term p (term.class name) k = if bytes_eq name (codes "range") then test_named (classes_of kind.Range) k else test_chain (chain_named p name) k
 test_term p _ k = perhaps
 
 abbrev pub test_object : Program → Object → Class → Test
 test_object p (object.instance c es) k = test_instance p c k
-test_object p (object.list site vs) k = test_named (classes_of_kind kind.List) k
-test_object p (object.tuple site layout vs) k = test_named (classes_of_kind kind.Tuple) k
-test_object p (object.dict site ps) k = test_named (classes_of_kind kind.Dict) k
+test_object p (object.list site vs) k = test_named (classes_of kind.List) k
+test_object p (object.tuple site layout vs) k = test_named (classes_of kind.Tuple) k
+test_object p (object.dict site ps) k = test_named (classes_of kind.Dict) k
 test_object p (object.view site native receiver vs) k = test_named [] k
 test_object p (object.outside t) k = test_term p t k
 test_object p _ k = perhaps
 
 abbrev pub test_value : Program → List Object → Value → Class → Test
 test_value p heap (ref place) k = test_object p (object_at heap place) k
-test_value p heap v k = test_named (classes_of_kind (kind_of heap v)) k
+test_value p heap v k = test_named (classes_of (kind_of heap v)) k
 
 abbrev pub class_at : List Object → Value → Option Class
 class_at heap (ref place) = class_of_object (object_at heap place)

@@ -3,6 +3,11 @@ use Rattle.std.specs.Prelude.{ℕ, zero, suc, pos, List, Option, Some, None, is_
 use Rattle.std.specs.Str.{bytes_eq}
 use Rattle.builtin_stubs.specs.declared.basic.Basic.{Basic}
 use Rattle.builtin_stubs.specs.declared.basic.Basic.TheVariants as kind
+use Rattle.builtin_stubs.specs.declared.parts.Outcome.TheVariants as outcome
+use Rattle.builtin_stubs.specs.declared.parts.Part.TheVariants as part
+use Rattle.builtin_stubs.specs.declared.parts.Parts.{Parts}
+use Rattle.builtin_stubs.specs.declared.parts.Parts.TheVariants as parts
+use Rattle.builtin_stubs.specs.Meanings.{Native, outcome_of}
 use Rattle.builtin_stubs.specs.Natives.{function_number}
 use Rattle.type_terms.specs.BuiltinNames.{is_instance_name}
 use Rattle.type_terms.specs.Terms.{Term, any, none, bool, int, float, str, bytes, list, dict, tuple, tuple_of, class, class_of, callable, union, Terms, no_terms, term}
@@ -79,3 +84,12 @@ of_kind kind.Str = fresh_text
 of_kind kind.Bytes = fresh_octets
 of_kind kind.Range = allocate (object.outside (class (codes "range")))
 of_kind _ = anything
+
+-- of a row that gives one kind
+abbrev pub of_one_kind : Parts → Action Value
+of_one_kind (parts.One (part.Kind k)) = of_kind k
+of_one_kind _ = anything
+
+-- what a native that isn't called stands for, by its row
+abbrev pub value_of_row : Native → Action Value
+value_of_row n = elim (outcome_of n.deed) [ outcome.TupleOfAnything ↦ allocate (object.outside (tuple_of any)) | outcome.Gives ps ↦ of_one_kind ps | _ ↦ anything ]

@@ -1,15 +1,21 @@
 -- What iterating a value gives (language reference, "The for statement"; library reference, "Iterator Types").
-use Rattle.std.specs.Prelude.{ℕ, zero, suc, Bool, true, false, ◌||◌, List, [], ◌∷◌, ◌++◌, map, length, Option, Some, None, slice_get, unwrap_or, if◌then◌else◌, codes}
-use Rattle.std.specs.Str.{bytes_eq}
-use Rattle.builtin_stubs.specs.Meanings.{Native, Outcome, view, pair_view, kind as of_a_kind, items, own_keys, own_values}
+use Rattle.std.specs.Prelude.{ℕ, zero, suc, Bool, ◌||◌, List, [], ◌∷◌, ◌++◌, map, length, Option, Some, None, is_some, slice_get, unwrap_or, if◌then◌else◌}
+use Rattle.builtin_stubs.specs.declared.basic.Basic.{Basic}
+use Rattle.builtin_stubs.specs.declared.parts.Outcome.{Outcome}
+use Rattle.builtin_stubs.specs.declared.parts.Outcome.TheVariants as outcome
+use Rattle.builtin_stubs.specs.declared.parts.Part.{Part}
+use Rattle.builtin_stubs.specs.declared.parts.Part.TheVariants as part
+use Rattle.builtin_stubs.specs.declared.parts.Parts.TheVariants as parts
+use Rattle.builtin_stubs.specs.Kinds.{items_of as items_of_kind, kind_of_term}
+use Rattle.builtin_stubs.specs.Meanings.{Native, outcome_of}
 use Rattle.builtin_stubs.specs.Natives.{natives}
 use Rattle.type_terms.specs.Terms as term
 use Rattle.type_terms.specs.Terms.{Term, Terms}
-use Rattle.py_meaning.specs.Values.{Value, none, text, octets, ref}
+use Rattle.py_meaning.specs.Values.{Value, none, ref}
 use Rattle.py_meaning.specs.Objects as object
-use Rattle.py_meaning.specs.Objects.{Object, object_at, is_unfollowed}
+use Rattle.py_meaning.specs.Objects.{Object, kind_of, is_unfollowed, is_unfollowed_at}
 use Rattle.py_meaning.specs.Programs.{Program}
-use Rattle.py_meaning.specs.Fresh.{fresh, fresh_member, fresh_whole, fresh_text, size}
+use Rattle.py_meaning.specs.Fresh.{fresh, fresh_member, of_kind, size}
 use Rattle.py_meaning.specs.Actions.{Action, gives, takes, counts, looks, bind, allocate, anything, at_place, is_even, pick}
 
 -- what one step gives: nothing, since the value can't be iterated; the end; or an element
@@ -39,22 +45,24 @@ abbrev pub of_places : Program → Terms → Action Step
 of_places p term.no_terms = gives ended
 of_places p ts = by_parity (bind (pick (size ts)) (fresh_member p ts))
 
-abbrev pub step_of_instance : Program → List ℕ → Action Step
-step_of_instance p name = if bytes_eq name (codes "range") then by_parity fresh_whole else gives no_items
+-- what a value of a declared type gives of a part of it, and a fresh value for a part that is a kind
+abbrev pub declared_step : Program → Option Part → Term → Action Step
+declared_step p (Some (part.Kind k)) t = by_parity (of_kind k)
+declared_step p (Some part.OwnElements) (term.list t) = by_parity (fresh p t)
+declared_step p (Some part.OwnElements) (term.tuple ts) = of_places p ts
+declared_step p (Some part.OwnElements) (term.tuple_of t) = by_parity (fresh p t)
+declared_step p (Some part.OwnKeys) (term.dict t u) = by_parity (fresh p t)
+declared_step p (Some part.OwnValues) (term.dict t u) = by_parity (fresh p u)
+declared_step p _ _ = gives no_items
 
 abbrev pub step_of_term : Program → Term → Action Step
-step_of_term p (term.list t) = by_parity (fresh p t)
-step_of_term p (term.dict t u) = by_parity (fresh p t)
-step_of_term p (term.tuple ts) = of_places p ts
-step_of_term p (term.tuple_of t) = by_parity (fresh p t)
-step_of_term p (term.class name) = step_of_instance p name
-step_of_term p _ = gives no_items
+step_of_term p t = declared_step p (items_of_kind (kind_of_term t)) t
 
 -- ---- dicts by their values and by their pairs
 
 abbrev pub values_of : Program → Object → Action Step
 values_of p (object.dict site ps) = among (map (λ q. q.1) ps)
-values_of p (object.outside (term.dict t u)) = by_parity (fresh p u)
+values_of p (object.outside t) = declared_step p (Some part.OwnValues) t
 values_of p _ = gives no_items
 
 -- a pair that a view gives is a tuple of two places, made anew where the view was made
@@ -81,26 +89,27 @@ abbrev pub paired_with : (site : ℕ) → Action Step → Action Step → Action
 paired_with site a b =
     bind a (λ one. on_element one (λ v. bind b (λ other. on_element other (λ w. bind (pair_of site v w) (λ x. gives (element x))) (gives ended))) (gives ended))
 
--- an element, and a fresh number before it in the pair
-abbrev pub numbered : (site : ℕ) → Action Step → Action Step
-numbered site a =
-    bind a (λ one. on_element one (λ v. bind fresh_whole (λ n. bind (pair_of site n v) (λ x. gives (element x)))) (gives ended))
+-- an element, and a fresh value of a kind before it in the pair
+abbrev pub numbered : (site : ℕ) → Basic → Action Step → Action Step
+numbered site k a =
+    bind a (λ one. on_element one (λ v. bind (of_kind k) (λ n. bind (pair_of site n v) (λ x. gives (element x)))) (gives ended))
 
 abbrev pub argument_at : List Value → ℕ → Value
 argument_at vs i = unwrap_or (slice_get vs i) none
 
 -- `inner` iterates what a view goes through
 abbrev pub step_of_view : Program → (Value → Action Step) → (site : ℕ) → (receiver : Value) → List Value → Outcome → Action Step
-step_of_view p inner site receiver vs (view (own_keys ∷ [])) = inner receiver
-step_of_view p inner site receiver vs (view (own_values ∷ [])) = at_value receiver (values_of p)
-step_of_view p inner site receiver vs (pair_view (own_keys ∷ []) (own_values ∷ [])) = at_value receiver (pairs_of p site)
-step_of_view p inner site receiver vs (pair_view (of_a_kind k ∷ []) (items i ∷ [])) = numbered site (inner (argument_at vs i))
-step_of_view p inner site receiver vs (pair_view (items i ∷ []) (items j ∷ [])) = paired_with site (inner (argument_at vs i)) (inner (argument_at vs j))
+step_of_view p inner site receiver vs (outcome.View (parts.One part.OwnKeys)) = inner receiver
+step_of_view p inner site receiver vs (outcome.View (parts.One part.OwnValues)) = at_value receiver (values_of p)
+step_of_view p inner site receiver vs (outcome.PairView (parts.One part.OwnKeys) (parts.One part.OwnValues)) = at_value receiver (pairs_of p site)
+step_of_view p inner site receiver vs (outcome.PairView (parts.One (part.Kind k)) (parts.One (part.Items i))) = numbered site k (inner (argument_at vs i))
+step_of_view p inner site receiver vs (outcome.PairView (parts.One (part.Items i)) (parts.One (part.Items j))) =
+    paired_with site (inner (argument_at vs i)) (inner (argument_at vs j))
 step_of_view p inner site receiver vs _ = gives ended
 
 abbrev pub step_of_native : Program → (Value → Action Step) → (site : ℕ) → (receiver : Value) → List Value → Option Native → Action Step
 step_of_native p inner site receiver vs None = gives ended
-step_of_native p inner site receiver vs (Some n) = step_of_view p inner site receiver vs n.outcome
+step_of_native p inner site receiver vs (Some n) = step_of_view p inner site receiver vs (outcome_of n.deed)
 
 -- ---- any value
 
@@ -113,10 +122,8 @@ step_of_object p inner (object.outside t) = if is_unfollowed (object.outside t) 
 step_of_object p inner _ = gives no_items
 
 abbrev pub step_of : Program → (Value → Action Step) → Value → Action Step
-step_of p inner (text empty) = by_parity fresh_text
-step_of p inner (octets empty) = by_parity fresh_whole
 step_of p inner (ref place) = at_place place (step_of_object p inner)
-step_of p inner _ = gives no_items
+step_of p inner v = declared_step p (items_of_kind (kind_of [] v)) term.any
 
 -- with so many views at most, one going through the other
 abbrev pub iterate_in : Program → ℕ → Value → Action Step
@@ -128,27 +135,8 @@ abbrev pub iterate : Program → Value → Action Step
 iterate p v = looks (λ m. iterate_in p (length m.heap) v)
 
 -- whether a value can be iterated
-abbrev pub is_iterable_term : Term → Bool
-is_iterable_term (term.list t) = true
-is_iterable_term (term.dict t u) = true
-is_iterable_term (term.tuple ts) = true
-is_iterable_term (term.tuple_of t) = true
-is_iterable_term (term.class name) = bytes_eq name (codes "range")
-is_iterable_term _ = false
-
-abbrev pub is_iterable_object : Object → Bool
-is_iterable_object (object.list site vs) = true
-is_iterable_object (object.tuple site layout vs) = true
-is_iterable_object (object.dict site ps) = true
-is_iterable_object (object.view site native receiver vs) = true
-is_iterable_object (object.outside t) = is_unfollowed (object.outside t) || is_iterable_term t
-is_iterable_object _ = false
-
 abbrev pub is_iterable : List Object → Value → Bool
-is_iterable heap (text empty) = true
-is_iterable heap (octets empty) = true
-is_iterable heap (ref place) = is_iterable_object (object_at heap place)
-is_iterable heap v = false
+is_iterable heap v = is_unfollowed_at heap v || is_some (items_of_kind (kind_of heap v))
 
 -- ---- natives that take items
 

@@ -1,9 +1,14 @@
 -- What holds of every run.
-use Rattle.std.specs.Prelude.{◌≡◌, ℕ, ◌≤◌, Bool, List, [], ◌++◌}
+use Rattle.std.specs.Prelude.{◌≡◌, ℕ, ◌≤◌, Bool, false, List, [], ◌++◌, Some, Contains}
+use Rattle.place_ids.specs.declared.operators.BinOp.{BinOp}
+use Rattle.builtin_stubs.specs.declared.basic.Basic.{Basic}
+use Rattle.builtin_stubs.specs.Operators.{op_kinds}
 use Rattle.type_terms.specs.Stubs.{Stub}
 use Rattle.type_terms.specs.Terms as term
 use Rattle.py_tree.specs.Tree.{Module}
 use Rattle.py_meaning.specs.Values.{Value, truth}
+use Rattle.py_meaning.specs.Objects.{kind_of, is_unfollowed_at}
+use Rattle.py_meaning.specs.Operators.{binary}
 use Rattle.py_meaning.specs.Events.{Event}
 use Rattle.py_meaning.specs.Programs.{Program, program}
 use Rattle.py_meaning.specs.Fresh.{fresh}
@@ -63,3 +68,10 @@ abbrev pub CallsAddEvents : Type 0
 CallsAddEvents =
     (m : Module) (stubs : List (List ℕ × Stub)) (n : ℕ) (choices : List ℕ) (calls : List OutsideCall) →
     (more : List Event) × ((run m stubs n choices calls).events ≡ (run m stubs n choices []).events ++ more)
+
+-- what an operator gives of values that are followed is of a kind of its row
+abbrev pub OperatorsKeepTheirRows : Type 0
+OperatorsKeepTheirRows =
+    (p : Program) (turns_in : Request → State → Answer Flow) (op : BinOp) (site line : ℕ) (v w x : Value) (s t : State) →
+    is_unfollowed_at s.memory.heap v ≡ false → is_unfollowed_at s.memory.heap w ≡ false → carry_out turns_in (binary p op site line v w) s ≡ gave x t →
+    (kinds : List Basic) × (op_kinds op (kind_of s.memory.heap v) (kind_of s.memory.heap w) ≡ Some kinds) × Contains kinds (kind_of t.memory.heap x)

@@ -8,7 +8,7 @@ use Rattle.py_meaning.specs.Values.{Value, Entries, entry, with_entry, without_e
 use Rattle.py_meaning.specs.Objects as object
 use Rattle.py_meaning.specs.Objects.{builtin}
 use Rattle.py_meaning.specs.Programs.{Program, text_at, is_local, is_bound}
-use Rattle.py_meaning.specs.Fresh.{fresh_text}
+use Rattle.py_meaning.specs.Fresh.{value_of_row}
 use Rattle.py_meaning.specs.Actions.{Frame, Memory, Action, gives, looks, bind, changes, allocate, anything, raise_builtin, may_raise, done}
 
 -- ---- reading
@@ -19,7 +19,7 @@ found_or error (Some v) = gives v
 
 abbrev pub native_value : (number : ℕ) → Option Native → Action Value
 native_value number None = anything
-native_value number (Some n) = elim n.sort [ sort.Value ↦ fresh_text | _ ↦ allocate (object.foreign (builtin number)) ]
+native_value number (Some n) = elim n.sort [ sort.Value ↦ value_of_row n | _ ↦ allocate (object.foreign (builtin number)) ]
 
 -- the builtin under a name; of a name that isn't known, and of one that isn't followed, nothing is known
 abbrev pub builtin_value : List ℕ → Action Value

@@ -1,10 +1,9 @@
 -- The objects in the heap of a run (language reference, "The standard type hierarchy", "Callable types").
-use Rattle.std.specs.Prelude.{ℕ, Bool, true, false, not, ◌||◌, List, Option, slice_get, unwrap_or, if◌then◌else◌, codes}
-use Rattle.std.specs.Str.{bytes_eq}
+use Rattle.std.specs.Prelude.{ℕ, Bool, true, false, not, ◌||◌, List, Option, slice_get, unwrap_or}
 use Rattle.builtin_stubs.specs.declared.basic.Basic.{Basic}
 use Rattle.builtin_stubs.specs.declared.basic.Basic.TheVariants as kind
+use Rattle.builtin_stubs.specs.Kinds.{kind_of_term}
 use Rattle.type_terms.specs.BuiltinNames.{is_instance_name}
-use Rattle.type_terms.specs.Exceptions.{is_exception}
 use Rattle.type_terms.specs.Terms as term
 use Rattle.type_terms.specs.Terms.{Term}
 use Rattle.py_meaning.specs.Values.{Value, none, truth, whole, float, text, octets, ref, Entries}
@@ -48,18 +47,6 @@ abbrev pub object_at : List Object → ℕ → Object
 object_at heap place = unwrap_or (slice_get heap place) (outside term.any)
 
 -- ---- kinds
-
-abbrev pub kind_of_instance : List ℕ → Basic
-kind_of_instance name =
-    if bytes_eq name (codes "range") then kind.Range else if is_exception name then kind.Exception else kind.Other
-
-abbrev pub kind_of_term : Term → Basic
-kind_of_term (term.list t) = kind.List
-kind_of_term (term.dict t u) = kind.Dict
-kind_of_term (term.tuple ts) = kind.Tuple
-kind_of_term (term.tuple_of t) = kind.Tuple
-kind_of_term (term.class name) = kind_of_instance name
-kind_of_term _ = kind.Other
 
 abbrev pub kind_of_object : Object → Basic
 kind_of_object (list site xs) = kind.List

@@ -8,8 +8,10 @@ use Rattle.place_ids.specs.declared.operators.CompareOp.TheVariants as cmp
 use Rattle.place_ids.specs.declared.operators.UnaryOp.{UnaryOp}
 use Rattle.builtin_stubs.specs.declared.basic.Basic.{Basic}
 use Rattle.builtin_stubs.specs.declared.basic.Basic.TheVariants as kind
+use Rattle.builtin_stubs.specs.declared.kinds.Sameness.TheVariants as sameness
+use Rattle.builtin_stubs.specs.Kinds.{identity}
 use Rattle.builtin_stubs.specs.Operators.{op_kinds, unary_kinds, order_kinds, looks_within}
-use Rattle.py_meaning.specs.Values.{Value, none, truth, whole}
+use Rattle.py_meaning.specs.Values.{Value, truth, whole}
 use Rattle.py_meaning.specs.Objects as object
 use Rattle.py_meaning.specs.Objects.{Object, kind_of, is_anything_at, is_unfollowed_at}
 use Rattle.py_meaning.specs.Events.{unsupported_operands}
@@ -62,13 +64,15 @@ abbrev pub same_truth : Bool → Bool → Bool
 same_truth true b = b
 same_truth false b = not b
 
--- None is the same as None alone, and truth values are the same where they are equal; of others it isn't known.
+abbrev pub same_truths : Value → Value → Option Bool
+same_truths (truth a) (truth b) = Some (same_truth a b)
+same_truths v w = None
+
+-- Of a value that may be anything it isn't known.
 abbrev pub is_same : List Object → Value → Value → Option Bool
-is_same heap none none = Some true
-is_same heap none w = if is_anything_at heap w then None else Some false
-is_same heap v none = if is_anything_at heap v then None else Some false
-is_same heap (truth a) (truth b) = Some (same_truth a b)
-is_same heap v w = None
+is_same heap v w =
+    if is_anything_at heap v || is_anything_at heap w then None
+    else elim (identity (kind_of heap v) (kind_of heap w)) [ sameness.Same ↦ Some true | sameness.Different ↦ Some false | sameness.AsTruths ↦ same_truths v w | sameness.Unknown ↦ None ]
 
 abbrev pub known_truth : (Bool → Bool) → Option Bool → Action Value
 known_truth f None = either_truth

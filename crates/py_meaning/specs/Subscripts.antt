@@ -1,9 +1,9 @@
 -- What subscripts and slices read and store, and what unpacking gives (language reference, "Subscriptions", "Slicings",
 -- "Assignment statements").
-use Rattle.std.specs.Prelude.{ℕ, zero, suc, Bool, true, false, ◌&&◌, ◌||◌, ◌==◌, List, [], ◌∷◌, length, Option, Some, None, slice_get, slice_set, if◌then◌else◌, codes}
-use Rattle.builtin_stubs.specs.declared.basic.Basic.{Basic}
-use Rattle.builtin_stubs.specs.declared.basic.Basic.TheVariants as kind
-use Rattle.builtin_stubs.specs.Operators.{takes_index}
+use Rattle.std.specs.Prelude.{ℕ, zero, suc, Bool, ◌&&◌, ◌||◌, ◌==◌, List, [], ◌∷◌, length, Option, Some, None, slice_get, slice_set, if◌then◌else◌, codes}
+use Rattle.builtin_stubs.specs.declared.parts.Part.{Part}
+use Rattle.builtin_stubs.specs.declared.parts.Part.TheVariants as part
+use Rattle.builtin_stubs.specs.Kinds.{part_of as part_of_kind, has_index, takes_index}
 use Rattle.type_terms.specs.Terms as term
 use Rattle.type_terms.specs.Terms.{Term}
 use Rattle.py_meaning.specs.Values.{Value, text, octets, ref}
@@ -11,7 +11,7 @@ use Rattle.py_meaning.specs.Objects as object
 use Rattle.py_meaning.specs.Objects.{Object, object_at, kind_of, is_unfollowed, is_unfollowed_at}
 use Rattle.py_meaning.specs.Events.{unsupported_operands, not_iterable}
 use Rattle.py_meaning.specs.Programs.{Program}
-use Rattle.py_meaning.specs.Fresh.{fresh_whole, fresh_text, fresh_octets}
+use Rattle.py_meaning.specs.Fresh.{fresh_text, fresh_octets, of_kind}
 use Rattle.py_meaning.specs.Contents.{Content, contents_at, pairs, read}
 use Rattle.py_meaning.specs.Iteration.{Step, no_items, ended, element, iterate, drain}
 use Rattle.py_meaning.specs.Actions.{Action, gives, takes, looks, bind, allocate, replace, anything, at_place, is_even, pick, one_of, raise_builtin, may_raise, fails, done}
@@ -30,20 +30,16 @@ part_of p cs = bind (one_of cs) (read_one p (codes "IndexError"))
 abbrev pub value_in : Program → Object → Action Value
 value_in p o = bind (one_of (pairs o)) (λ q. elim q [ None ↦ raise_builtin (codes "KeyError") | Some r ↦ read p r.1 ])
 
-abbrev pub read_kind : Program → List Object → Value → Basic → (line : ℕ) → Action Value
-read_kind p heap v kind.Str line = fresh_text
-read_kind p heap v kind.Bytes line = fresh_whole
-read_kind p heap v kind.Dict line = elim v [ ref place ↦ value_in p (object_at heap place) | _ ↦ fails line unsupported_operands ]
-read_kind p heap v k line = part_of p (contents_at heap v)
+abbrev pub value_at : Program → List Object → Value → (line : ℕ) → Action Value
+value_at p heap (ref place) line = value_in p (object_at heap place)
+value_at p heap v line = fails line unsupported_operands
 
--- whether a kind takes any index
-abbrev pub has_index : Basic → Bool
-has_index kind.List = true
-has_index kind.Dict = true
-has_index kind.Tuple = true
-has_index kind.Str = true
-has_index kind.Bytes = true
-has_index _ = false
+-- by what the tables say that the container gives
+abbrev pub read_part : Program → List Object → Value → (line : ℕ) → Option Part → Action Value
+read_part p heap v line (Some (part.Kind k)) = of_kind k
+read_part p heap v line (Some part.OwnElements) = part_of p (contents_at heap v)
+read_part p heap v line (Some part.OwnValues) = value_at p heap v line
+read_part p heap v line _ = fails line unsupported_operands
 
 -- an index that isn't followed may be any
 abbrev pub fits_index : List Object → Value → Value → Bool
@@ -53,7 +49,7 @@ abbrev pub read_item : Program → (line : ℕ) → Value → Value → Action V
 read_item p line v i =
     looks (λ m.
     if is_unfollowed_at m.heap v then anything
-    else if fits_index m.heap v i then read_kind p m.heap v (kind_of m.heap v) line else fails line unsupported_operands)
+    else if fits_index m.heap v i then read_part p m.heap v line (part_of_kind (kind_of m.heap v)) else fails line unsupported_operands)
 
 -- ---- storing
 

@@ -1,6 +1,6 @@
 //! What holds of every run.
 ghost use Rattle.py_meaning.specs.References.{ReferencesPointIn};
-ghost use Rattle.py_meaning.specs.Laws.{MoreTurnsChangeNothing, NestingIsEnough, ChoicesFromTheFront, WholeIsNoTruth, NothingAfterTheEnding, CallsAddEvents};
+ghost use Rattle.py_meaning.specs.Laws.{MoreTurnsChangeNothing, NestingIsEnough, ChoicesFromTheFront, WholeIsNoTruth, NothingAfterTheEnding, CallsAddEvents, OperatorsKeepTheirRows};
 
 /// More turns change nothing of a run that is over.
 pub fn more_turns_change_nothing()
@@ -35,4 +35,9 @@ pub fn calls_add_events()
 /// Each reference in the last heap points into it.
 pub fn references_point_in()
     ensures { ReferencesPointIn }
+{}
+
+/// What an operator gives of values that are followed is of a kind of its row.
+pub fn operators_keep_their_rows()
+    ensures { OperatorsKeepTheirRows }
 {}

@@ -1,6 +1,6 @@
 -- Where one of several expressions is no target, they are no targets, whatever follows.
 use Rattle.std.proofs.Common.{◌≡◌, ◌<◌, ℕ, zero, suc, Bool, true, false, ◌&&◌, if◌then◌else◌, Err, refl, sym, ◌∙◌, subst, arith}
-use Rattle.py_tree.specs.Cursor.{Cursor, past, with_site}
+use Rattle.py_grammar.specs.Cursor.{Cursor, past, with_site}
 use Rattle.py_tree.specs.Tree as tree
 use Rattle.py_tree.specs.Tree.{Expr, Exprs, expr, no_exprs, node}
 use Rattle.py_descent.specs.Bodies.{is_target, some_targets, are_targets, and_expr}

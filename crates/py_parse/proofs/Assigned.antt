@@ -1,7 +1,7 @@
 -- One round of the loop over what stands before each `=`.
 use Rattle.std.proofs.Common.{◌≡◌, Bool, true, false, if◌then◌else◌, refl, ◌∙◌, ap}
 use Rattle.py_tokens.specs.declared.token.Op.TheVariants as op
-use Rattle.py_tree.specs.Cursor.{Cursor, past}
+use Rattle.py_grammar.specs.Cursor.{Cursor, past}
 use Rattle.py_tree.specs.Tree as tree
 use Rattle.py_tree.specs.Tree.{Expr, Exprs}
 use Rattle.py_descent.specs.Bodies.{is_target, and_expr, expect}

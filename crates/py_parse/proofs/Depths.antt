@@ -3,7 +3,7 @@ use Rattle.std.proofs.Common.{◌≡◌, ℕ, zero, suc, ◌+◌, ◌<◌, ◌�
 use Rattle.std.proofs.lemmas.List.{length-reverse, reverse-append}
 use Rattle.std.proofs.lemmas.List.Sums.{sum_by-cons, sum_by_push}
 use Rattle.py_tokens.specs.declared.token.Token.{Token}
-use Rattle.py_tree.specs.Nesting.{Nest, after, closed, depth, depths_from, depths, IsTooDeep, too_deep}
+use Rattle.py_grammar.specs.Nesting.{Nest, after, closed, depth, depths_from, depths, IsTooDeep, too_deep}
 use Rattle.py_parse.specs.declared.nesting.Turn.{Turn}
 use Rattle.py_parse.specs.declared.nesting.Turn.TheVariants.{Opens, Closes, Resets, Adds, Indents, Dedents, Nothing}
 use Rattle.py_parse.specs.Depths.{flat, after_in, turned, IsShallow, is_shallow, IsFirstDeep}

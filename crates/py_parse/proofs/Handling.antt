@@ -9,7 +9,7 @@ use Rattle.py_tree.specs.declared.statement.Arm.{roll-Arm}
 use Rattle.py_tree.specs.declared.statement.Handler as rust_handler
 use Rattle.py_tree.specs.declared.statement.Handler.{roll-Handler}
 use Rattle.py_tree.specs.declared.statement.Stmt as rust_stmt
-use Rattle.py_tree.specs.Cursor.{Cursor, past, line_of}
+use Rattle.py_grammar.specs.Cursor.{Cursor, past, line_of}
 use Rattle.py_tree.specs.Tree.{Expr, Stmts, Arms, Handlers}
 use Rattle.py_tree.specs.View.{Arm, Handler, expr_view, stmts_view, arms_view, handlers_view}
 use Rattle.std.proofs.Common.{option_map}
@@ -20,7 +20,7 @@ use Rattle.py_descent.specs.Goals.{test, block, caught, elifs, handlers}
 use Rattle.py_descent.specs.Programs.{Answer, gives, refuses}
 use Rattle.py_descent.proofs.Unfold.{descends}
 use Rattle.py_parse.proofs.Pushes.{bind_gives, arms_push, handlers_push}
-use Rattle.py_parse.proofs.Views.{view_arm, view_handler}
+use Rattle.py_tree.proofs.StatementViews.{view_arm, view_handler}
 
 -- a colon, and what is behind it
 behind_colon : (z : Bool) (q : Answer Stmts) (ss : Stmts) (d : Cursor) → (if z then q else refuses) ≡ gives ss d → (z ≡ true) × (q ≡ gives ss d)

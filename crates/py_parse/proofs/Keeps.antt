@@ -1,6 +1,6 @@
 -- The descent keeps the tokens.
 use Rattle.std.proofs.Common.{◌≡◌, ℕ, zero, suc, ◌+◌, ◌*◌, ◌||◌, Bool, true, false, nat_lt, if◌then◌else◌, Option, Some, None, refl, ◌∙◌}
-use Rattle.py_tree.specs.Cursor.{Cursor, past, with_site, with_fun, with_class, within}
+use Rattle.py_grammar.specs.Cursor.{Cursor, past, with_site, with_fun, with_class, within}
 use Rattle.py_descent.specs.Codes.{at}
 use Rattle.py_descent.specs.Goals.{Goal, rank}
 use Rattle.py_descent.specs.Programs.{Answer, gives, refuses, Program, give, refuse, reading, choose, eat, take, site, fun_id, class_id, inside, call as look, step, Calls, bind, said, on_said, room, exec}

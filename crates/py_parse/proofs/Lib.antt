@@ -10,4 +10,3 @@ pub mod Rounds
 pub mod Steps
 pub mod TargetLists
 pub mod Tokens
-pub mod Views

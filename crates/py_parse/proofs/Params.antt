@@ -3,7 +3,7 @@ use Rattle.std.proofs.Common.{◌≡◌, ℕ, List, [], ◌∷◌, ◌++◌, Boo
 use Rattle.std.specs.Option.{is_some}
 use Rattle.py_tokens.specs.declared.token.Op.TheVariants as op
 use Rattle.py_tree.specs.declared.literal.Literal.{Literal}
-use Rattle.py_tree.specs.Cursor.{Cursor, past}
+use Rattle.py_grammar.specs.Cursor.{Cursor, past}
 use Rattle.py_tree.specs.Tree.{Param}
 use Rattle.py_descent.specs.Codes.{at, symbol}
 use Rattle.py_descent.specs.Descent.{descent}

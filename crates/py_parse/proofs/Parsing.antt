@@ -7,8 +7,8 @@ use Rattle.py_tokens.specs.declared.token.Token.{Token}
 use Rattle.py_tokens.specs.declared.token.TokenKind.{TokenKind}
 use Rattle.py_tokens.specs.declared.token.TokenKind.TheVariants as kind
 use Rattle.py_tokens.specs.TokenList.{TokenList}
-use Rattle.py_tree.specs.Cursor.{Cursor, next, kind_in, past}
-use Rattle.py_tree.specs.Modules.{start, IsModuleOf}
+use Rattle.py_grammar.specs.Cursor.{Cursor, next, kind_in, past}
+use Rattle.py_grammar.specs.Modules.{start, IsModuleOf}
 use Rattle.py_tree.specs.Tree.{Stmts, no_stmts, Module}
 use Rattle.py_descent.specs.Codes.{end, at}
 use Rattle.py_descent.specs.Descent.{descent}
@@ -17,7 +17,7 @@ use Rattle.py_descent.specs.Programs.{Answer, gives, refuses, bind}
 use Rattle.py_descent.proofs.Modules.{descent_is_sound, descent_is_complete}
 use Rattle.py_descent.proofs.Seeing.{at_is, at_end}
 use Rattle.py_tree.specs.declared.module.Module as rust_module
-use Rattle.py_tree.specs.Nesting.{IsTooDeep}
+use Rattle.py_grammar.specs.Nesting.{IsTooDeep}
 use Rattle.py_tree.specs.View.{module_view}
 use Rattle.py_parse.specs.declared.fault.ParseFault.{ParseFault}
 use Rattle.py_parse.specs.declared.fault.ParseFault.TheVariants.{Unexpected, OutOfProfile, TooDeep, Memory}

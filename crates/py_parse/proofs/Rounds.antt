@@ -8,8 +8,8 @@ use Rattle.py_tree.specs.declared.expression.Arg as rust_arg
 use Rattle.py_tree.specs.declared.expression.Arg.{fold_out-Arg}
 use Rattle.py_tree.specs.declared.expression.Expr as rust_expr
 use Rattle.py_tree.specs.declared.expression.Pair as rust_pair
-use Rattle.py_tree.specs.Cursor.{Cursor, past, with_site, line_of}
-use Rattle.py_tree.specs.Names.{text_in, is_super}
+use Rattle.py_grammar.specs.Cursor.{Cursor, past, with_site, line_of}
+use Rattle.py_grammar.specs.Names.{text_in, is_super}
 use Rattle.py_tree.specs.Tree as tree
 use Rattle.py_tree.specs.Tree.{Expr, ExprKind, node, Exprs, Args, Pairs}
 use Rattle.py_tree.specs.View.{Arg, Pair, expr_kind_step, arg_step, expr_step, pair_step, expr_view, exprs_view, arg_view, args_view, pair_view, pairs_view}

@@ -3,7 +3,7 @@ use Rattle.std.proofs.Common.{◌≡◌, ◌<◌, ℕ, List, [], ◌∷◌, ◌+
 use Rattle.std.proofs.lemmas.Bool.Decides.{nat_tests}
 use Rattle.py_tokens.specs.declared.token.Op.TheVariants as op
 use Rattle.py_tokens.specs.declared.token.Keyword.TheVariants as word
-use Rattle.py_tree.specs.Cursor.{Cursor, past}
+use Rattle.py_grammar.specs.Cursor.{Cursor, past}
 use Rattle.py_tree.specs.Tree.{Stmt, Stmts, Member, Members, ImportPart, FromPart}
 use Rattle.py_descent.specs.Bodies.{and_stmt, and_member, at_close}
 use Rattle.py_descent.specs.Codes.{at, symbol, keyword, newline}

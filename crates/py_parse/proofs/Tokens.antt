@@ -14,7 +14,7 @@ use Rattle.py_tokens.specs.contracts.token.Op as op_type
 use Rattle.py_tokens.specs.contracts.token.Keyword as word_type
 use denote.Enum.Bare.{sameb}
 use denote.Enum.Declared.{tag_of}
-use Rattle.py_tree.specs.Cursor.{Cursor, next, kind_in, past}
+use Rattle.py_grammar.specs.Cursor.{Cursor, next, kind_in, past}
 use Rattle.py_descent.specs.Bodies.{at_named}
 use Rattle.py_descent.specs.Codes.{Mark, symbol, keyword, is_in, at, op_code, word_code}
 use Rattle.py_descent.specs.Programs.{said, said_of}

@@ -1,7 +1,7 @@
 -- The first token that is nested too deep.
 use Rattle.std.specs.Prelude.{◌≡◌, ℕ, ◌+◌, ◌-◌, ◌<◌, ◌≤◌, [], ◌∷◌, List, length, slice_get, Option, Some, None}
 use Rattle.py_tokens.specs.declared.token.Token.{Token}
-use Rattle.py_tree.specs.Nesting.{Nest, after, closed, depths}
+use Rattle.py_grammar.specs.Nesting.{Nest, after, closed, depths}
 use Rattle.py_parse.specs.declared.nesting.Turn.{Turn}
 use Rattle.py_parse.specs.declared.nesting.Turn.TheVariants.{Opens, Closes, Resets, Adds, Indents, Dedents, Nothing}
 

@@ -6,7 +6,7 @@ use Rattle.py_tokens.specs.declared.token.Keyword.{Keyword}
 use Rattle.py_tokens.specs.declared.token.Op.{Op}
 use Rattle.py_parse.specs.declared.fault.ParseFault.{ParseFault}
 use Rattle.py_parse.specs.declared.fault.ParseFault.TheVariants.{Unexpected, OutOfProfile, TooDeep, Memory}
-use Rattle.py_tree.specs.Cursor.{Cursor, past}
+use Rattle.py_grammar.specs.Cursor.{Cursor, past}
 use Rattle.py_descent.specs.Programs.{Answer, gives, refuses, Program, exec}
 use Rattle.py_descent.specs.Descent.{descent}
 use Rattle.py_descent.specs.Takings.{number_in, negative_in}

@@ -3,9 +3,9 @@ use Rattle.std.specs.Prelude.{◌≡◌, ℕ, true, List, Result, Ok, Err}
 use Rattle.std.specs.Option.{is_some}
 use Rattle.py_tokens.specs.TokenList.{TokenList}
 use Rattle.py_tree.specs.declared.module.Module as rust_module
-use Rattle.py_tree.specs.Cursor.{next}
-use Rattle.py_tree.specs.Modules.{IsModuleOf}
-use Rattle.py_tree.specs.Nesting.{IsTooDeep}
+use Rattle.py_grammar.specs.Cursor.{next}
+use Rattle.py_grammar.specs.Modules.{IsModuleOf}
+use Rattle.py_grammar.specs.Nesting.{IsTooDeep}
 use Rattle.py_tree.specs.Tree.{Stmts, no_stmts, Module}
 use Rattle.py_tree.specs.View.{module_view}
 use Rattle.py_descent.specs.Bodies.{expect}

@@ -2,7 +2,7 @@
 use Rattle.std.specs.Prelude.{◌≡◌, true, false, Result, Ok, Err}
 use Rattle.py_parse.specs.declared.fault.ParseFault.{ParseFault}
 use Rattle.py_parse.specs.declared.fault.ParseFault.TheVariants.{Unexpected, OutOfProfile, TooDeep, Memory}
-use Rattle.py_tree.specs.Cursor.{Cursor}
+use Rattle.py_grammar.specs.Cursor.{Cursor}
 use Rattle.py_tree.specs.Tree.{Exprs}
 use Rattle.py_descent.specs.Programs.{Answer, gives, refuses}
 use Rattle.py_descent.specs.Bodies.{some_targets}

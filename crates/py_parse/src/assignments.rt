@@ -6,7 +6,7 @@ ghost use Rattle.py_descent.specs.Descent.{descent};
 ghost use Rattle.py_descent.specs.Goals.{annotated, assigned, assignment, tests};
 ghost use Rattle.py_descent.specs.Programs.{call, choose, eat, give, refuse, room, take};
 ghost use Rattle.py_descent.specs.Takings.{augment_in};
-ghost use Rattle.py_tree.specs.Statements.{is_plural};
+ghost use Rattle.py_grammar.specs.Statements.{is_plural};
 ghost use Rattle.py_tree.specs.Tree as tree;
 ghost use Rattle.py_tree.specs.Tree.{expr, no_exprs};
 ghost use Rattle.py_tree.specs.View.{expr_view, exprs_view, stmt_kind_view};
@@ -112,7 +112,7 @@ impl<'t> Parser<'t> {
         self.annotated(first)
     }
 
-    #[tactic(auto, using(py_descent::proofs::Each::unfold_annotated, crate::proofs::Pushes::bind_gives, crate::proofs::Views::view_annotated))]
+    #[tactic(auto, using(py_descent::proofs::Each::unfold_annotated, crate::proofs::Pushes::bind_gives, py_tree::proofs::StatementViews::view_annotated))]
     fn annotated(&mut self, target: Expr) -> Result<StmtKind, ParseFault>
         ensures gives { Gives stmt_kind_view result self.new (descent (annotated (expr_view target)) self.old) }
         ensures shrinks { OnOk result (room self.new < room self.old) }

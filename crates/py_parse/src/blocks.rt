@@ -5,7 +5,7 @@ ghost use Rattle.py_descent.specs.Codes.{at, symbol, keyword, indent, dedent};
 ghost use Rattle.py_descent.specs.Descent.{descent};
 ghost use Rattle.py_descent.specs.Goals.{block, caught, compound, elifs, else_rest, for_rest, handlers, if_rest, statement, statements, try_rest, while_rest};
 ghost use Rattle.py_descent.specs.Programs.{call, give, refuses, room};
-ghost use Rattle.py_tree.specs.Cursor.{past};
+ghost use Rattle.py_grammar.specs.Cursor.{past};
 ghost use Rattle.py_tree.specs.Tree.{no_handlers};
 ghost use Rattle.py_tree.specs.View.{arms_view, expr_view, handlers_view, stmt_kind_view, stmts_view};
 ghost use Rattle.py_parse.specs.Gives.{Gives, run};
@@ -90,7 +90,7 @@ impl<'t> Parser<'t> {
     }
 
     #[cycle(statements)]
-    #[tactic(auto, using(py_descent::proofs::Each::unfold_if_rest, crate::proofs::Pushes::bind_gives, crate::proofs::Pushes::arms_push, crate::proofs::Views::view_if, crate::proofs::Views::view_arm))]
+    #[tactic(auto, using(py_descent::proofs::Each::unfold_if_rest, crate::proofs::Pushes::bind_gives, crate::proofs::Pushes::arms_push, py_tree::proofs::StatementViews::view_if, py_tree::proofs::StatementViews::view_arm))]
     fn if_arms(&mut self) -> Result<StmtKind, ParseFault>
         ensures gives { Gives stmt_kind_view result self.new (descent if_rest self.old) }
         ensures shrinks { OnOk result (room self.new < room self.old) }
@@ -105,7 +105,7 @@ impl<'t> Parser<'t> {
     }
 
     #[cycle(statements)]
-    #[tactic(auto, using(py_descent::proofs::Each::unfold_elifs, crate::proofs::Pushes::bind_gives, crate::proofs::Pushes::arms_push, crate::proofs::Views::view_arm))]
+    #[tactic(auto, using(py_descent::proofs::Each::unfold_elifs, crate::proofs::Pushes::bind_gives, crate::proofs::Pushes::arms_push, py_tree::proofs::StatementViews::view_arm))]
     fn further_arms(&mut self, arms: &mut Vec<Arm>) -> Result<(), ParseFault>
         ensures gives { Gives (λ _. arms_view arms.new.items) result self.new (descent (elifs (arms_view arms.old.items)) self.old) }
         ensures shrinks { OnOk result (room self.new ≤ room self.old) }
@@ -133,7 +133,7 @@ impl<'t> Parser<'t> {
     }
 
     #[cycle(statements)]
-    #[tactic(auto, using(py_descent::proofs::Each::unfold_while_rest, crate::proofs::Pushes::bind_gives, crate::proofs::Views::view_while))]
+    #[tactic(auto, using(py_descent::proofs::Each::unfold_while_rest, crate::proofs::Pushes::bind_gives, py_tree::proofs::StatementViews::view_while))]
     fn while_loop(&mut self) -> Result<StmtKind, ParseFault>
         ensures gives { Gives stmt_kind_view result self.new (descent while_rest self.old) }
         ensures shrinks { OnOk result (room self.new < room self.old) }
@@ -145,7 +145,7 @@ impl<'t> Parser<'t> {
     }
 
     #[cycle(statements)]
-    #[tactic(auto, using(py_descent::proofs::Each::unfold_for_rest, crate::proofs::Pushes::bind_gives, crate::proofs::Views::view_for))]
+    #[tactic(auto, using(py_descent::proofs::Each::unfold_for_rest, crate::proofs::Pushes::bind_gives, py_tree::proofs::StatementViews::view_for))]
     fn for_loop(&mut self) -> Result<StmtKind, ParseFault>
         ensures gives { Gives stmt_kind_view result self.new (descent for_rest self.old) }
         ensures shrinks { OnOk result (room self.new < room self.old) }
@@ -159,7 +159,7 @@ impl<'t> Parser<'t> {
     }
 
     #[cycle(statements)]
-    #[tactic(auto, using(py_descent::proofs::Each::unfold_try_rest, crate::proofs::Pushes::bind_gives, crate::proofs::Views::view_try))]
+    #[tactic(auto, using(py_descent::proofs::Each::unfold_try_rest, crate::proofs::Pushes::bind_gives, py_tree::proofs::StatementViews::view_try))]
     fn try_block(&mut self) -> Result<StmtKind, ParseFault>
         ensures gives { Gives stmt_kind_view result self.new (descent try_rest self.old) }
         ensures shrinks { OnOk result (room self.new < room self.old) }
@@ -172,7 +172,7 @@ impl<'t> Parser<'t> {
 
     // The `except` clauses. None follows one without a class.
     #[cycle(statements)]
-    #[tactic(auto, using(py_descent::proofs::Each::unfold_handlers, crate::proofs::Pushes::bind_gives, crate::proofs::Pushes::handlers_push, crate::proofs::Views::view_handler))]
+    #[tactic(auto, using(py_descent::proofs::Each::unfold_handlers, crate::proofs::Pushes::bind_gives, crate::proofs::Pushes::handlers_push, py_tree::proofs::StatementViews::view_handler))]
     fn handlers(&mut self) -> Result<Vec<Handler>, ParseFault>
         ensures gives { Gives (λ handlers. handlers_view handlers.items) result self.new (descent (handlers no_handlers) self.old) }
         ensures shrinks { OnOk result (room self.new < room self.old) }

@@ -18,7 +18,7 @@ use py_tokens::{Keyword, Op};
 use py_tree::{ClassDef, Member};
 
 impl<'t> Parser<'t> {
-    #[tactic(auto, using(py_descent::proofs::Each::unfold_class_rest, crate::proofs::Pushes::bind_gives, crate::proofs::Views::view_class_def))]
+    #[tactic(auto, using(py_descent::proofs::Each::unfold_class_rest, crate::proofs::Pushes::bind_gives, py_tree::proofs::StatementViews::view_class_def))]
     pub(crate) fn class_def(&mut self) -> Result<ClassDef, ParseFault>
         ensures gives { Gives class_view result self.new (descent class_rest self.old) }
         ensures shrinks { OnOk result (room self.new < room self.old) }
@@ -112,7 +112,7 @@ impl<'t> Parser<'t> {
     }
 
     // A method, or another member and the end of its line.
-    #[tactic(auto, using(py_descent::proofs::Each::unfold_entry, crate::proofs::Pushes::bind_gives, crate::proofs::Views::view_method))]
+    #[tactic(auto, using(py_descent::proofs::Each::unfold_entry, crate::proofs::Pushes::bind_gives, py_tree::proofs::StatementViews::view_method))]
     fn entry(&mut self) -> Result<Member, ParseFault>
         ensures gives { Gives member_view result self.new (descent entry self.old) }
         ensures shrinks { OnOk result (room self.new < room self.old) }
@@ -137,7 +137,7 @@ impl<'t> Parser<'t> {
         Ok(member)
     }
 
-    #[tactic(auto, using(py_descent::proofs::Each::unfold_class_member, crate::proofs::Pushes::bind_gives, crate::proofs::Views::view_pass_member, crate::proofs::Views::view_ellipsis_member, crate::proofs::Views::view_text))]
+    #[tactic(auto, using(py_descent::proofs::Each::unfold_class_member, crate::proofs::Pushes::bind_gives, py_tree::proofs::StatementViews::view_pass_member, py_tree::proofs::StatementViews::view_ellipsis_member, py_tree::proofs::StatementViews::view_text))]
     fn member(&mut self) -> Result<Member, ParseFault>
         ensures gives { Gives member_view result self.new (descent class_member self.old) }
         ensures shrinks { OnOk result (room self.new < room self.old) }

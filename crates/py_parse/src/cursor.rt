@@ -2,8 +2,8 @@
 ghost use Rattle.std.specs.Prelude.{◌≡◌, ◌<◌, if◌then◌else◌, length, slice_get, Some, IsTrue, MatchBool, OnOk};
 ghost use Rattle.std.specs.Option.{is_some};
 ghost use Rattle.py_tokens.specs.declared.token.TokenKind.TheVariants as kind;
-ghost use Rattle.py_tree.specs.Cursor.{next, line_of, past, kind_in};
-ghost use Rattle.py_tree.specs.Names.{text_of};
+ghost use Rattle.py_grammar.specs.Cursor.{next, line_of, past, kind_in};
+ghost use Rattle.py_grammar.specs.Names.{text_of};
 ghost use Rattle.py_descent.specs.Codes.{at, is_in, symbol, keyword as keyword_mark, newline, indent, dedent, end};
 ghost use Rattle.py_descent.specs.Bodies.{after_name, at_named, expect};
 ghost use Rattle.py_descent.specs.Goals.{name, plain_name};

@@ -27,7 +27,7 @@ impl<'t> Parser<'t> {
     }
 
     /// A function or a method, past its name.
-    #[tactic(auto, using(py_descent::proofs::Each::unfold_function, crate::proofs::Pushes::bind_gives, crate::proofs::Views::view_fun))]
+    #[tactic(auto, using(py_descent::proofs::Each::unfold_function, crate::proofs::Pushes::bind_gives, py_tree::proofs::StatementViews::view_fun))]
     pub(crate) fn function(&mut self, line: LineNo, name: NameId) -> Result<FunDef, ParseFault>
         ensures gives { Gives fun_view result self.new (descent (function line name) self.old) }
         ensures shrinks { OnOk result (room self.new < room self.old) }

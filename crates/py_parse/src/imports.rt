@@ -5,7 +5,7 @@ ghost use Rattle.py_descent.specs.Codes.{at, symbol, keyword};
 ghost use Rattle.py_descent.specs.Descent.{descent};
 ghost use Rattle.py_descent.specs.Goals.{name, dotted, dots, import_part, imports, froms, from_rest};
 ghost use Rattle.py_descent.specs.Programs.{give, eat, call, room};
-ghost use Rattle.py_tree.specs.Cursor.{past};
+ghost use Rattle.py_grammar.specs.Cursor.{past};
 ghost use Rattle.py_tree.specs.Tree as tree;
 ghost use Rattle.py_tree.specs.View.{import_view, from_view, stmt_kind_view};
 ghost use Rattle.py_parse.specs.Gives.{Gives, GivesPart, number, run};

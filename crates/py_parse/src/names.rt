@@ -1,7 +1,7 @@
 //! Names that the profile leaves out at some places.
 ghost use Rattle.std.specs.Prelude.{◌≡◌, ◌&&◌, nat_eq, codes};
 ghost use Rattle.std.specs.List.{starts_with, ends_with};
-ghost use Rattle.py_tree.specs.Names.{is_private, is_special};
+ghost use Rattle.py_grammar.specs.Names.{is_private, is_special};
 
 // Whether a text has two underscores at both ends. They may be the same ones.
 fn has_both_ends(text: &str) -> bool

@@ -1,6 +1,6 @@
 //! How deep the tokens of a text are nested.
 ghost use Rattle.std.specs.Prelude.{◌≡◌, ◌<◌, ◌≤◌, slice_get, MatchResult};
-ghost use Rattle.py_tree.specs.Nesting.{Nest, after, after_op, after_word, depth};
+ghost use Rattle.py_grammar.specs.Nesting.{Nest, after, after_op, after_word, depth};
 ghost use Rattle.py_parse.specs.Depths.{flat, after_in, turned, IsFirstDeep};
 
 use crate::fault::ParseFault;
@@ -81,7 +81,7 @@ struct Nesting {
 
 impl Model for Nesting {
     ghost use Rattle.std.specs.Prelude.{◌≡◌, ◌+◌, length, sum, reverse};
-    ghost use Rattle.py_tree.specs.Nesting.{Nest};
+    ghost use Rattle.py_grammar.specs.Nesting.{Nest};
 
     ghost Value = { Nest };
 

@@ -1,7 +1,7 @@
 //! Nodes of the tree, which are numbered after their parts.
 ghost use Rattle.std.specs.Prelude.{◌≡◌, OnOk};
 ghost use Rattle.py_descent.specs.Programs.{gives, room};
-ghost use Rattle.py_tree.specs.Cursor.{with_site};
+ghost use Rattle.py_grammar.specs.Cursor.{with_site};
 ghost use Rattle.py_tree.specs.Tree as tree;
 ghost use Rattle.py_tree.specs.Tree.{node};
 ghost use Rattle.py_tree.specs.View.{expr_view, exprs_view, args_view, pairs_view, expr_kind_view, bound_view};

@@ -1,6 +1,6 @@
 //! The parser: where it stands in the tokens, and what it has numbered so far.
 ghost use Rattle.std.specs.Prelude.{◌≡◌, ◌≤◌, ◌<◌, ◌^◌, length, take, false};
-ghost use Rattle.py_tree.specs.Cursor.{with_site, with_fun, with_class, within};
+ghost use Rattle.py_grammar.specs.Cursor.{with_site, with_fun, with_class, within};
 ghost use Rattle.py_descent.specs.Programs.{gives, room};
 ghost use Rattle.py_parse.specs.Gives.{Gives, number};
 
@@ -28,7 +28,7 @@ pub(crate) struct Parser<'t> {
 
 impl<'t> Model for Parser<'t> {
     ghost use Rattle.std.specs.Prelude.{◌<◌, ◌^◌, take};
-    ghost use Rattle.py_tree.specs.Cursor.{Cursor};
+    ghost use Rattle.py_grammar.specs.Cursor.{Cursor};
 
     ghost Value = { Cursor };
 

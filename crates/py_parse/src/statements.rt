@@ -5,7 +5,7 @@ ghost use Rattle.py_descent.specs.Codes.{keyword};
 ghost use Rattle.py_descent.specs.Descent.{descent};
 ghost use Rattle.py_descent.specs.Goals.{assert_rest, assignment, class_rest, compound, definition, from_rest, imports, line, raise_rest, return_rest, simple, simple_kind, statement, statements};
 ghost use Rattle.py_descent.specs.Programs.{call, eat, give, room};
-ghost use Rattle.py_tree.specs.Cursor.{line_of};
+ghost use Rattle.py_grammar.specs.Cursor.{line_of};
 ghost use Rattle.py_tree.specs.Tree as tree;
 ghost use Rattle.py_tree.specs.View.{stmt_kind_view, stmt_view, stmts_view};
 ghost use Rattle.py_parse.specs.Gives.{Gives, run};
@@ -81,7 +81,7 @@ impl<'t> Parser<'t> {
     }
 
     #[cycle(statements)]
-    #[tactic(auto, using(crate::proofs::Pushes::stmts_push, crate::proofs::Views::view_stmt))]
+    #[tactic(auto, using(crate::proofs::Pushes::stmts_push, py_tree::proofs::StatementViews::view_stmt))]
     fn compound_statement(&mut self, body: &mut Vec<Stmt>) -> Result<(), ParseFault>
         ensures gives { Gives (λ _. stmts_view body.new.items) result self.new (run (call compound (λ kind. give (and_stmt (stmts_view body.old.items) (tree.statement kind (line_of self.old))))) self.old) }
         ensures shrinks { OnOk result (room self.new < room self.old) }
@@ -92,7 +92,7 @@ impl<'t> Parser<'t> {
         Ok(())
     }
 
-    #[tactic(auto, using(crate::proofs::Pushes::stmts_push, crate::proofs::Views::view_def, crate::proofs::Views::view_stmt))]
+    #[tactic(auto, using(crate::proofs::Pushes::stmts_push, py_tree::proofs::StatementViews::view_def, py_tree::proofs::StatementViews::view_stmt))]
     fn function_statement(&mut self, body: &mut Vec<Stmt>) -> Result<(), ParseFault>
         ensures gives { Gives (λ _. stmts_view body.new.items) result self.new (run (call definition (λ fun. give (and_stmt (stmts_view body.old.items) (tree.statement (tree.def fun) (line_of self.old))))) self.old) }
         ensures shrinks { OnOk result (room self.new < room self.old) }
@@ -104,7 +104,7 @@ impl<'t> Parser<'t> {
         Ok(())
     }
 
-    #[tactic(auto, using(crate::proofs::Pushes::stmts_push, crate::proofs::Views::view_class, crate::proofs::Views::view_stmt))]
+    #[tactic(auto, using(crate::proofs::Pushes::stmts_push, py_tree::proofs::StatementViews::view_class, py_tree::proofs::StatementViews::view_stmt))]
     fn class_statement(&mut self, body: &mut Vec<Stmt>) -> Result<(), ParseFault>
         ensures gives { Gives (λ _. stmts_view body.new.items) result self.new (run (call class_rest (λ class. give (and_stmt (stmts_view body.old.items) (tree.statement (tree.class class) (line_of self.old))))) self.old) }
         ensures shrinks { OnOk result (room self.new < room self.old) }
@@ -134,7 +134,7 @@ impl<'t> Parser<'t> {
         }
     }
 
-    #[tactic(auto, using(py_descent::proofs::Each::unfold_simple, crate::proofs::Pushes::bind_gives, crate::proofs::Views::view_stmt))]
+    #[tactic(auto, using(py_descent::proofs::Each::unfold_simple, crate::proofs::Pushes::bind_gives, py_tree::proofs::StatementViews::view_stmt))]
     fn simple(&mut self) -> Result<Stmt, ParseFault>
         ensures gives { Gives stmt_view result self.new (descent simple self.old) }
         ensures shrinks { OnOk result (room self.new < room self.old) }
@@ -145,7 +145,7 @@ impl<'t> Parser<'t> {
         Ok(Stmt { kind, line })
     }
 
-    #[tactic(auto, using(py_descent::proofs::Each::unfold_simple_kind, crate::proofs::Pushes::bind_gives, crate::proofs::Views::view_pass, crate::proofs::Views::view_break, crate::proofs::Views::view_continue, crate::proofs::Views::view_ellipsis))]
+    #[tactic(auto, using(py_descent::proofs::Each::unfold_simple_kind, crate::proofs::Pushes::bind_gives, py_tree::proofs::StatementViews::view_pass, py_tree::proofs::StatementViews::view_break, py_tree::proofs::StatementViews::view_continue, py_tree::proofs::StatementViews::view_ellipsis))]
     fn simple_kind(&mut self) -> Result<StmtKind, ParseFault>
         ensures gives { Gives stmt_kind_view result self.new (descent simple_kind self.old) }
         ensures shrinks { OnOk result (room self.new < room self.old) }
@@ -195,7 +195,7 @@ impl<'t> Parser<'t> {
         self.assignment()
     }
 
-    #[tactic(auto, using(py_descent::proofs::Each::unfold_return_rest, crate::proofs::Pushes::bind_gives, crate::proofs::Views::view_return))]
+    #[tactic(auto, using(py_descent::proofs::Each::unfold_return_rest, crate::proofs::Pushes::bind_gives, py_tree::proofs::StatementViews::view_return))]
     fn return_value(&mut self) -> Result<StmtKind, ParseFault>
         ensures gives { Gives stmt_kind_view result self.new (descent return_rest self.old) }
         ensures shrinks { OnOk result (room self.new ≤ room self.old) }
@@ -208,7 +208,7 @@ impl<'t> Parser<'t> {
         Ok(StmtKind::Return(Some(value)))
     }
 
-    #[tactic(auto, using(py_descent::proofs::Each::unfold_raise_rest, crate::proofs::Pushes::bind_gives, crate::proofs::Views::view_raise))]
+    #[tactic(auto, using(py_descent::proofs::Each::unfold_raise_rest, crate::proofs::Pushes::bind_gives, py_tree::proofs::StatementViews::view_raise))]
     fn raise(&mut self) -> Result<StmtKind, ParseFault>
         ensures gives { Gives stmt_kind_view result self.new (descent raise_rest self.old) }
         ensures shrinks { OnOk result (room self.new ≤ room self.old) }
@@ -225,7 +225,7 @@ impl<'t> Parser<'t> {
         Ok(StmtKind::Raise(Some(raised), None))
     }
 
-    #[tactic(auto, using(py_descent::proofs::Each::unfold_assert_rest, crate::proofs::Pushes::bind_gives, crate::proofs::Views::view_assert))]
+    #[tactic(auto, using(py_descent::proofs::Each::unfold_assert_rest, crate::proofs::Pushes::bind_gives, py_tree::proofs::StatementViews::view_assert))]
     fn assert_test(&mut self) -> Result<StmtKind, ParseFault>
         ensures gives { Gives stmt_kind_view result self.new (descent assert_rest self.old) }
         ensures shrinks { OnOk result (room self.new < room self.old) }

@@ -6,7 +6,7 @@ ghost use Rattle.py_descent.specs.Descent.{descent};
 ghost use Rattle.py_descent.specs.Goals.{for_targets, more_targets, primary};
 ghost use Rattle.py_descent.specs.Programs.{call, choose, eat, give, refuse, room, site};
 ghost use Rattle.py_descent.specs.Takings.{begins_test};
-ghost use Rattle.py_tree.specs.Statements.{is_plural};
+ghost use Rattle.py_grammar.specs.Statements.{is_plural};
 ghost use Rattle.py_tree.specs.Tree as tree;
 ghost use Rattle.py_tree.specs.Tree.{expr, no_exprs, node};
 ghost use Rattle.py_tree.specs.View.{expr_view, exprs_view};

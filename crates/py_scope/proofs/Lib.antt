@@ -1,2 +1,4 @@
 mod BuiltinLemmas
-mod MentionLemmas
+mod ClassHeads
+mod KeptLemmas
+mod Sorting

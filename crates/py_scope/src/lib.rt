@@ -3,15 +3,19 @@
 
 mod bodies;
 mod builtins;
-mod class_row;
+mod chain;
 mod class_rules;
+mod classes;
 mod expressions;
 mod fault;
+mod first_values;
 mod judging;
 mod jump_rules;
 mod jumps;
+mod kept_class;
 mod listing;
 mod mention;
+mod methods;
 mod name_set;
 mod names_of;
 mod printed;
@@ -26,6 +30,7 @@ mod targets;
 mod tests;
 mod uses;
 
+pub use chain::Chain;
 pub use scope_rules::ScopeFault;
 pub use scopes::Scopes;
 pub use scoping::scope;

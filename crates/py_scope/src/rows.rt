@@ -1,5 +1,5 @@
 //! Lists of plain rows.
-ghost use Rattle.std.specs.Prelude.{◌≡◌, ◌≤◌, [], ◌∷◌, ◌++◌, length, insert, OnOk, IfOk};
+ghost use Rattle.std.specs.Prelude.{◌≡◌, [], ◌∷◌, ◌++◌, OnOk, IfOk};
 
 use std::alloc::{AllocError, Global};
 use std::marker::Model;
@@ -31,6 +31,16 @@ impl<T> Rows<T> {
         }
     }
 
+    pub fn from_items(items: Vec<T>) -> Rows<T>
+        ensures { result ≡ items.items }
+    {
+        Rows { items }
+    }
+
+    pub fn allocator(&self) -> Global {
+        *self.items.allocator()
+    }
+
     pub fn items(&self) -> &[T]
         ensures { result.now ≡ self.now }
     {
@@ -43,23 +53,6 @@ impl<T: Copy + Drop> Rows<T> {
         ensures { OnOk result (self.new ≡ self.old ++ row ∷ []) }
     {
         self.items.push(row)?;
-        Ok(())
-    }
-
-    /// Puts a row in at a place.
-    pub fn insert(&mut self, place: usize, row: T) -> Result<(), AllocError>
-        requires { place ≤ length self.old }
-        ensures { OnOk result (self.new ≡ insert self.old place row) }
-    {
-        self.items.insert(place, row)?;
-        Ok(())
-    }
-
-    /// Puts rows at the end.
-    pub fn append(&mut self, rows: &[T]) -> Result<(), AllocError>
-        ensures { OnOk result (self.new ≡ self.old ++ rows.now) }
-    {
-        self.items.extend_from_slice(rows)?;
         Ok(())
     }
 

@@ -4,7 +4,8 @@ ghost use Rattle.scope_rules.specs.NameLists.{has_name};
 ghost use Rattle.scope_rules.specs.Scoped as spec;
 
 use crate::builtins::exception_at;
-use crate::class_row::{ClassRow, method_named};
+use crate::chain::Chain;
+use crate::classes::Classes;
 use crate::name_set::NameSet;
 use crate::rows::Rows;
 use place_ids::{ClassId, FunId, Id, NameId};
@@ -19,7 +20,7 @@ pub struct Scopes {
     pub(crate) stored: NameSet,
     pub(crate) printed: Rows<NameId>,
     pub(crate) locals: Vec<NameSet>,
-    pub(crate) classes: Vec<ClassRow>,
+    pub(crate) classes: Classes,
 }
 
 impl Model for Scopes {
@@ -27,18 +28,15 @@ impl Model for Scopes {
 
     ghost Value = { Scoped };
 
-    ghost view = { λ s. record { bound = s.bound; stored = s.stored; printed = s.printed; locals = s.locals.items; classes = s.classes.items } };
+    ghost view = { λ s. record { bound = s.bound; stored = s.stored; printed = s.printed; locals = s.locals.items; classes = s.classes } };
 }
 
 impl Scopes {
-    /// The class and its bases, from the nearest on. It is empty for an unknown number.
-    pub fn chain(&self, class: ClassId) -> &[ClassId]
-        ensures { result.now ≡ spec.chain self.now class }
+    /// The class and its bases, from the nearest on. There are none for an unknown number.
+    pub fn chain(&self, class: ClassId) -> Chain<'_>
+        ensures { result ≡ spec.chain self.now class }
     {
-        match self.classes.get(class.number() as usize) {
-            Some(row) => row.chain.items(),
-            None => &[],
-        }
+        self.classes.chain(class)
     }
 
     /// The number of a name among those that a function binds: its parameters come first.
@@ -68,8 +66,7 @@ impl Scopes {
     pub fn base_row(&self, class: ClassId) -> Option<NativeName>
         ensures { option_map (λ native. native.text.now) result ≡ spec.base_row self.now class }
     {
-        let row = self.classes.get(class.number() as usize)?;
-        let number = row.native?;
+        let number = self.classes.native(class)?;
         let text = exception_at(number)?;
         Some(NativeName { text })
     }
@@ -78,18 +75,14 @@ impl Scopes {
     pub fn method(&self, class: ClassId, name: NameId) -> Option<FunId>
         ensures { result ≡ spec.method self.now class name }
     {
-        let row = self.classes.get(class.number() as usize)?;
-        method_named(row.methods.items(), name)
+        self.classes.method(class, name)
     }
 
     /// Whether a class's own body binds a name.
     pub fn binds(&self, class: ClassId, name: NameId) -> bool
         ensures { result ≡ spec.binds self.now class name }
     {
-        match self.classes.get(class.number() as usize) {
-            Some(row) => row.bound.contains(name),
-            None => false,
-        }
+        self.classes.binds(class, name)
     }
 
     /// Whether the module stores anywhere to an attribute of a name.
@@ -114,7 +107,7 @@ impl Scopes {
         let stored = self.stored.copy()?;
         let printed = self.printed.copy()?;
         let locals = copy_sets(&self.locals)?;
-        let classes = copy_rows(&self.classes)?;
+        let classes = self.classes.copy()?;
         Ok(Scopes {
             bound,
             stored,
@@ -140,26 +133,6 @@ fn put_sets(sets: &[NameSet], copies: &mut Vec<NameSet>) -> Result<(), AllocErro
 {
     for set in sets {
         let copy = set.copy()?;
-        copies.push(copy)?;
-    }
-    Ok(())
-}
-
-fn copy_rows(rows: &Vec<ClassRow>) -> Result<Vec<ClassRow>, AllocError>
-    ensures { IfOk result (λ copies. copies.items ≡ rows.now.items) }
-{
-    let alloc = *rows.allocator();
-    let mut copies = Vec::new(alloc);
-    put_rows(rows.as_slice(), &mut copies)?;
-    Ok(copies)
-}
-
-#[tactic(auto, using(std::proofs::Common::append_assoc))]
-fn put_rows(rows: &[ClassRow], copies: &mut Vec<ClassRow>) -> Result<(), AllocError>
-    ensures { OnOk result (copies.new.items ≡ copies.old.items ++ rows.now) }
-{
-    for row in rows {
-        let copy = row.copy()?;
         copies.push(copy)?;
     }
     Ok(())

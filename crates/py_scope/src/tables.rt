@@ -1,19 +1,25 @@
 //! The tables of a module.
-ghost use Rattle.std.specs.Prelude.{◌≡◌, ◌++◌, ◌∷◌, [], None, OnOk, IfOk, slice_get};
+ghost use Rattle.std.specs.Prelude.{◌≡◌, ◌++◌, ◌∷◌, [], None, OnOk, IfOk, slice_get, option_map, nat_eq};
 ghost use Rattle.std.specs.Option.{option_and_then, option_copied};
+ghost use Rattle.indexmap.specs.IndexMap.{get};
+ghost use Rattle.py_scope.specs.KeptClasses.{base_in, scope_of, told_from, HaveBasesBefore, AreFirstPlaces};
 ghost use Rattle.py_tree.specs.View.{stmts_view, class_view, members_view, fun_view};
 ghost use Rattle.scope_rules.specs.Tables as spec;
 ghost use Rattle.type_terms.specs.Exceptions.{exception_names};
 
 use crate::bodies::uses_of_fun;
 use crate::builtins::{exception_number, text_of};
-use crate::class_row::{ClassRow, class_named};
+use crate::classes::Classes;
+use crate::first_values::put_first;
+use crate::kept_class::{KeptClass, class_at};
 use crate::listing::{class_mentions, fun_mentions};
+use crate::methods::Methods;
 use crate::name_set::NameSet;
 use crate::names_of::bound;
 use crate::rows::Rows;
 use crate::uses::uses;
-use place_ids::{ClassId, NameId, Names, Sequence};
+use indexmap::IndexMap;
+use place_ids::{NameId, Names, Sequence};
 use py_tree::{ClassDef, FunDef, Member, Stmt, StmtKind};
 use scope_rules::{Mention, MethodRow};
 use std::alloc::{AllocError, Global};
@@ -106,12 +112,12 @@ fn method_row(fun: &FunDef) -> MethodRow
     }
 }
 
-fn method_rows(alloc: Global, members: &[Member]) -> Result<Rows<MethodRow>, AllocError>
-    ensures { IfOk result (λ rows. rows ≡ spec.method_rows (members_view members.now)) }
+fn methods(alloc: Global, members: &[Member]) -> Result<Methods, AllocError>
+    ensures { IfOk result (λ methods. methods ≡ spec.method_rows (members_view members.now)) }
 {
     let mut rows = Rows::new(alloc);
     put_methods(members, &mut rows)?;
-    Ok(rows)
+    Methods::new(alloc, rows)
 }
 
 #[tactic(auto, using(std::proofs::Common::append_assoc))]
@@ -126,13 +132,11 @@ fn put_methods(members: &[Member], rows: &mut Rows<MethodRow>) -> Result<(), All
     Ok(())
 }
 
-fn base_class(earlier: &[ClassRow], base: Option<NameId>) -> Option<&ClassRow>
-    ensures { option_copied result ≡ spec.base_class earlier.now base }
+// The place of a class's base.
+fn base_place(places: &IndexMap<NameId, usize>, base: Option<NameId>) -> Option<usize>
+    ensures { result ≡ option_and_then (get nat_eq places.now) base }
 {
-    match base {
-        Some(name) => class_named(earlier, name),
-        None => None,
-    }
+    places.get(&base?).copied()
 }
 
 fn native_of(names: &Names, base: Option<NameId>) -> Option<u32>
@@ -144,74 +148,73 @@ fn native_of(names: &Names, base: Option<NameId>) -> Option<u32>
     }
 }
 
-fn native_in(names: &Names, above: Option<&ClassRow>, base: Option<NameId>) -> Option<u32>
-    ensures { option_and_then (slice_get exception_names) result ≡ spec.native_in names.now (option_copied above.entry) base }
+// The builtin exception class at the end of the chain of a class, whose base is there or is none of the classes.
+fn native_in(names: &Names, above: Option<&KeptClass>, base: Option<NameId>) -> Option<u32>
+    ensures { option_and_then (slice_get exception_names) result ≡ spec.native_in names.now (option_map (scope_of []) (option_copied above.entry)) base }
 {
     match above {
-        Some(row) => row.native,
+        Some(class) => class.native,
         None => native_of(names, base),
     }
 }
 
-fn chain_in(above: Option<&ClassRow>) -> &[ClassId]
-    ensures { result.now ≡ spec.chain_in (option_copied above.entry) }
-{
-    match above {
-        Some(row) => row.chain.items(),
-        None => &[],
-    }
-}
-
-fn chain_below(
-    alloc: Global,
-    class: ClassId,
-    above: Option<&ClassRow>,
-) -> Result<Rows<ClassId>, AllocError>
-    ensures { IfOk result (λ chain. chain ≡ class ∷ spec.chain_in (option_copied above.entry)) }
-{
-    let mut chain = Rows::new(alloc);
-    chain.push(class)?;
-    chain.append(chain_in(above))?;
-    Ok(chain)
-}
-
-fn class_row(
+fn kept_class(
     alloc: Global,
     names: &Names,
-    earlier: &[ClassRow],
+    earlier: &[KeptClass],
+    base: Option<usize>,
     class: &ClassDef,
-) -> Result<ClassRow, AllocError>
-    ensures { IfOk result (λ row. row ≡ spec.class_row names.now earlier.now (class_view class.now)) }
+) -> Result<KeptClass, AllocError>
+    requires { base_in (told_from [] earlier.now) base ≡ spec.base_class (told_from [] earlier.now) class.now.base }
+    ensures name { IfOk result (λ kept. kept.name ≡ class.now.name) }
+    ensures base { IfOk result (λ kept. kept.base ≡ base) }
+    ensures told { IfOk result (λ kept. scope_of (told_from [] earlier.now) kept ≡ spec.class_scope names.now (told_from [] earlier.now) (class_view class.now)) }
 {
-    let above = base_class(earlier, class.base);
-    let chain = chain_below(alloc, class.id, above)?;
-    let native = native_in(names, above, class.base);
+    let native = native_in(names, class_at(earlier, base), class.base);
     let mentions = class_mentions(alloc, class)?;
     let bound = bound(alloc, mentions.items())?;
-    let methods = method_rows(alloc, &class.members)?;
-    Ok(ClassRow {
+    let methods = methods(alloc, &class.members)?;
+    Ok(KeptClass {
         name: class.name,
-        chain,
+        id: class.id,
+        base,
         native,
         bound,
         methods,
     })
 }
 
-/// The rows of the classes, in their order.
-pub(crate) fn classes(
+// Puts a class at the end, where each name has the place of its first class.
+fn put_class(
     alloc: Global,
     names: &Names,
-    stmts: &[Stmt],
-) -> Result<Vec<ClassRow>, AllocError>
-    ensures { IfOk result (λ rows. rows.items ≡ spec.classes_from names.now [] (stmts_view stmts.now)) }
+    class: &ClassDef,
+    rows: &mut Vec<KeptClass>,
+    places: &mut IndexMap<NameId, usize>,
+) -> Result<(), AllocError>
+    requires before { HaveBasesBefore rows.old.items }
+    requires places { AreFirstPlaces (λ name. get nat_eq places.old name) rows.old.items }
+    ensures told { OnOk result (told_from [] rows.new.items ≡ told_from [] rows.old.items ++ spec.class_scope names.now (told_from [] rows.old.items) (class_view class.now) ∷ []) }
+    ensures before { OnOk result (HaveBasesBefore rows.new.items) }
+    ensures places { OnOk result (AreFirstPlaces (λ name. get nat_eq places.new name) rows.new.items) }
+{
+    let base = base_place(places, class.base);
+    let row = kept_class(alloc, names, rows.as_slice(), base, class)?;
+    put_first(places, class.name, rows.len())?;
+    rows.push(row)?;
+    Ok(())
+}
+
+/// The classes, in their order.
+pub(crate) fn classes(alloc: Global, names: &Names, stmts: &[Stmt]) -> Result<Classes, AllocError>
+    ensures { IfOk result (λ classes. classes ≡ spec.classes_from names.now [] (stmts_view stmts.now)) }
 {
     let mut rows = Vec::new(alloc);
+    let mut places = IndexMap::new(alloc);
     for stmt in stmts {
         if let StmtKind::Class(class) = &stmt.kind {
-            let row = class_row(alloc, names, &rows, class)?;
-            rows.push(row)?;
+            put_class(alloc, names, class, &mut rows, &mut places)?;
         }
     }
-    Ok(rows)
+    Ok(Classes::new(rows))
 }

@@ -3,7 +3,7 @@ ghost use Rattle.std.specs.Prelude.{◌≡◌, ◌++◌, OnOk, map, option_map, 
 ghost use Rattle.py_tree.specs.View.{expr_view, exprs_view, stmt_kind_view, stmts_view, arms_view, handlers_view, import_view, from_view};
 ghost use Rattle.scope_rules.specs.Mentions.{mentions, mentions_of_all, targets_of_all, targets};
 ghost use Rattle.scope_rules.specs.Uses as spec;
-ghost use Rattle.scope_rules.specs.Uses.{uses_of, uses_of_arms, uses_of_handlers, annotates, imports, froms, import_binds, handler_binds, from_binds};
+ghost use Rattle.scope_rules.specs.Uses.{uses_of, uses_of_arms, uses_of_handlers, annotates, imports, froms, import_binds, handler_binds, bound_by};
 ghost use Rattle.scope_rules.specs.declared.mention.Role.TheVariants as role;
 
 use crate::expressions::{mention, mention_all, mention_option};
@@ -229,7 +229,7 @@ fn uses_of_froms(
 }
 
 fn bound_from_part(part: &FromPart) -> NameId
-    ensures { result ≡ from_binds part.now.alias part.now.name }
+    ensures { result ≡ bound_by part.now.alias part.now.name }
 {
     match part.alias {
         Some(alias) => alias,

@@ -1,1 +1,4 @@
+pub mod ExpressionViews
+pub mod NodeViews
 pub mod Slices
+pub mod StatementViews

@@ -1,9 +1,2 @@
-pub mod Cursor
-pub mod Expressions
-pub mod Modules
-pub mod Names
-pub mod Nesting
-pub mod Operators
-pub mod Statements
 pub mod Tree
 pub mod View

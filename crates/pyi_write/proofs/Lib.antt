@@ -1,5 +1,5 @@
 mod Joined
-mod Placing
+mod Rising
 mod Before
 mod Dots
 mod Lexing
@@ -18,4 +18,6 @@ mod OneType
 mod OneReading
 mod OneMeaning
 mod Sorting
+mod RisingTexts
+mod ShownNames
 mod Small

@@ -85,7 +85,7 @@ qualified_module (b ∷ bs) h = module_by b bs (module_of bs) (qualified_module 
 or_false : (a b : Bool) → a ≡ false → a || b ≡ b
 or_false a b h = ap (λ t. t || b) h
 
-same_text : (x : List ℕ) → bytes_eq x x ≡ true
+pub same_text : (x : List ℕ) → bytes_eq x x ≡ true
 same_text x = (bytes_decides x x).1 refl
 
 or_true : (a : Bool) → a || true ≡ true

@@ -1,8 +1,8 @@
 -- The lists in order are sorted, and have what they are to have.
-use Rattle.std.proofs.Common.{◌≡◌, ℕ, Bool, true, false, not, ◌||◌, cond, IsTrue, inl, inr, List, [], ◌∷◌, refl, sym, ap, ◌∙◌, subst}
+use Rattle.std.proofs.Common.{◌≡◌, ℕ, suc, ◌+◌, Bool, true, false, not, ◌||◌, cond, IsTrue, inl, inr, List, [], ◌∷◌, refl, sym, ap, ◌∙◌, subst, arith}
 use Rattle.std.specs.Cmp.Lexicographic.{slice_cmp, nat_list_cmp_total}
 use Rattle.std.specs.BTreeMap.Comparable.{le_lt_trans}
-use Rattle.std.specs.List.{filter, position_or_len, AllByRecursion}
+use Rattle.std.specs.List.{filter, insert, position_or_len, AllByRecursion}
 use Rattle.std.specs.List.Sorted.{IsPermutation}
 use Rattle.std.specs.Ordering.{nat_cmp, is_lt, is_le, is_eq, ordering_reverse}
 use Rattle.std.specs.Str.{bytes_eq}
@@ -16,7 +16,6 @@ use Rattle.pyi_write.specs.Laws.{NoneBefore, StandInOrder, AllAfter, AreRising, 
 use Rattle.pyi_write.specs.Orders.{is_before, placed, has_text, with_text, in_order, is_fun, with_name, shown}
 use Rattle.pyi_write.proofs.Before.{not_before}
 use Rattle.pyi_write.proofs.Modules.{IsIn, placed_all, in_order_all, each_in_order, all_in}
-use Rattle.pyi_write.proofs.Placing.{inserted}
 
 -- ---- the order
 
@@ -68,8 +67,17 @@ name_in_order n (m ∷ ms) h =
     one_more n m (with_name n ms) ms (is_before m.name n.name) refl h (name_in_order n ms h.1) h.0
     (λ is. placed_all (λ (k : Name). is_before k.name m.name ≡ false) (λ (k : Name). is_before k.name n.name) n ms (not_before m.name n.name is) h.0)
 
+module _ {X : Type 0} (before : X → Bool) (x : X) where
+  by_test : (y : X) (ys more : List X) (n : ℕ) (b : Bool) → insert ys n x ≡ more → insert (y ∷ ys) (cond (not (not b)) (1 + n) 0) x ≡ cond b (y ∷ more) (x ∷ y ∷ ys)
+  by_test y ys more n true is = let next : 1 + n ≡ suc n = omega arith in ap (λ k. insert (y ∷ ys) k x) next ∙ ap (λ zs. y ∷ zs) is
+  by_test y ys more n false is = refl
+
+  put : (ys : List X) → insert ys (position_or_len (λ y. not (before y)) ys) x ≡ placed before x ys
+  put [] = refl
+  put (y ∷ ys) = by_test y ys (placed before x ys) (position_or_len (λ z. not (before z)) ys) (before y) (put ys)
+
 placed_same : {X : Type 0} (before : X → Bool) (x : X) (ys : List X) → IsPermutation (x ∷ ys) (placed before x ys)
-placed_same before x ys = subst (IsPermutation (x ∷ ys)) (inserted before x ys) (IsPermutation-insert ys (position_or_len (λ y. not (before y)) ys) x)
+placed_same before x ys = subst (IsPermutation (x ∷ ys)) (put before x ys) (IsPermutation-insert ys (position_or_len (λ y. not (before y)) ys) x)
 
 module _ (fs : List Fun) where
   order_by : (n : Name) (ns : List Name) (b : Bool) → StandInOrder ns → StandInOrder (cond b ns (with_name n ns))
@@ -129,7 +137,7 @@ rising_with x ys h = by_test (has_text x ys) refl
     by_test true is = h
     by_test false is = text_rising x ys is h
 
-rising : (xs : List (List ℕ)) → AreRising (in_order xs)
+pub rising : (xs : List (List ℕ)) → AreRising (in_order xs)
 rising [] = tt
 rising (x ∷ xs) = rising_with x (in_order xs) (rising xs)
 

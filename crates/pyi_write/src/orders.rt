@@ -1,63 +1,24 @@
 //! Texts and names in the order of their bytes.
-ghost use Rattle.std.specs.Prelude.{◌≡◌, ◌≤◌, map, length, not, IfOk, OnOk};
-ghost use Rattle.std.specs.List.{position_or_len};
+ghost use Rattle.std.specs.Borrow.{Bor};
+ghost use Rattle.std.specs.Prelude.{◌≡◌, List, ℕ, [], map, not, IfOk, OnOk};
+ghost use Rattle.std.specs.HashSet.{contains_by};
+ghost use Rattle.std.specs.List.{filter};
+ghost use Rattle.std.specs.Str.{bytes_eq};
 ghost use Rattle.type_terms.specs.Stubs.{name_view, fun_view};
-ghost use Rattle.pyi_write.specs.Orders.{is_before, has_text, with_text, in_order, is_fun, with_name, shown};
+ghost use Rattle.pyi_write.specs.Orders.{in_order, is_fun, shown};
 
 use std::alloc::{AllocError, Global};
-use std::cmp::Ordering;
+use std::collections::HashSet;
 use type_terms::{StubFun, StubName};
 
 /// The texts in order, each once.
 pub(crate) fn in_order<'a>(alloc: Global, texts: &[&'a [u8]]) -> Result<Vec<&'a [u8]>, AllocError>
     ensures { IfOk result (λ ordered. map (λ text. text.now) ordered.items ≡ in_order (map (λ text. text.now) texts.now)) }
 {
-    let mut ordered = Vec::new(alloc);
-    for place in (0..texts.len()).rev() {
-        add_text(&mut ordered, texts[place])?;
-    }
+    let mut ordered = Vec::from_slice(alloc, texts)?;
+    ordered.sort_unstable();
+    ordered.dedup();
     Ok(ordered)
-}
-
-// Puts a text in its place, unless it is there.
-fn add_text<'a>(ordered: &mut Vec<&'a [u8]>, text: &'a [u8]) -> Result<(), AllocError>
-    ensures { OnOk result (map (λ other. other.now) ordered.new.items ≡ with_text text.now (map (λ other. other.now) ordered.old.items)) }
-{
-    if !has_text(ordered, text) {
-        let place = place_of_text(ordered, text);
-        ordered.insert(place, text)?;
-    }
-    Ok(())
-}
-
-fn has_text(ordered: &[&[u8]], text: &[u8]) -> bool
-    ensures { result ≡ has_text text.now (map (λ other. other.now) ordered.now) }
-{
-    for other in ordered {
-        if text == *other {
-            return true;
-        }
-    }
-    false
-}
-
-// How many texts stand before this one, up to the first that doesn't.
-fn place_of_text(ordered: &[&[u8]], text: &[u8]) -> usize
-    ensures within { result ≤ length ordered.now }
-    ensures place { result ≡ position_or_len (λ other. not (is_before other.now text.now)) ordered.now }
-{
-    for (place, other) in ordered.iter().enumerate() {
-        if !is_before(other, text) {
-            return place;
-        }
-    }
-    ordered.len()
-}
-
-fn is_before(first: &[u8], second: &[u8]) -> bool
-    ensures { result ≡ is_before first.now second.now }
-{
-    first.cmp(second) == Ordering::Less
 }
 
 /// The names in order, without those that one of the functions has.
@@ -68,46 +29,43 @@ pub(crate) fn shown<'a>(
 ) -> Result<Vec<&'a StubName>, AllocError>
     ensures { IfOk result (λ ordered. map (λ name. name_view name.now) ordered.items ≡ shown (map fun_view funs.now) (map name_view names.now)) }
 {
-    let mut ordered = Vec::new(alloc);
-    for place in (0..names.len()).rev() {
-        let name = &names[place];
-        if !is_fun(funs, name) {
-            add_name(&mut ordered, name)?;
-        }
-    }
+    let mut ordered = without_funs(alloc, funs, names)?;
+    sort(&mut ordered)?;
     Ok(ordered)
 }
 
-// Whether a function has the name.
-fn is_fun(funs: &[StubFun], name: &StubName) -> bool
-    ensures { result ≡ is_fun (map fun_view funs.now) name.now.name }
+// The names that none of the functions has.
+fn without_funs<'a>(
+    alloc: Global,
+    funs: &[StubFun],
+    names: &'a [StubName],
+) -> Result<Vec<&'a StubName>, AllocError>
+    ensures { IfOk result (λ kept. map (λ name. name_view name.now) kept.items ≡ filter (λ name. not (is_fun (map fun_view funs.now) name.name)) (map name_view names.now)) }
 {
+    let taken = fun_names(alloc, funs)?;
+    let mut kept = Vec::new(alloc);
+    for name in names {
+        if !taken.contains(&name.name.bytes()) {
+            kept.push(name)?;
+        }
+    }
+    Ok(kept)
+}
+
+fn fun_names<'a>(alloc: Global, funs: &'a [StubFun]) -> Result<HashSet<&'a [u8]>, AllocError>
+    ensures { IfOk result (λ taken. (name : Bor (List ℕ)) → contains_by (λ text. bytes_eq name.now text.now) taken ≡ is_fun (map fun_view funs.now) name.now) }
+{
+    let mut taken = HashSet::new(alloc);
     for fun in funs {
-        if name.name.bytes() == fun.name.bytes() {
-            return true;
-        }
+        taken.insert(fun.name.bytes())?;
     }
-    false
+    Ok(taken)
 }
 
-// Puts a name before the first that doesn't stand before it.
-fn add_name<'a>(ordered: &mut Vec<&'a StubName>, name: &'a StubName) -> Result<(), AllocError>
-    ensures { OnOk result (map (λ other. name_view other.now) ordered.new.items ≡ with_name (name_view name.now) (map (λ other. name_view other.now) ordered.old.items)) }
+// Sorts names, where those that have the same text keep their order.
+fn sort(names: &mut Vec<&StubName>) -> Result<(), AllocError>
+    ensures { OnOk result (map (λ name. name_view name.now) names.new.items ≡ shown [] (map (λ name. name_view name.now) names.old.items)) }
 {
-    let place = place_of_name(ordered, name);
-    ordered.insert(place, name)?;
+    names.sort_by(|first, second| first.name.bytes().cmp(second.name.bytes()))?;
     Ok(())
-}
-
-// How many names stand before this one, up to the first that doesn't.
-fn place_of_name(ordered: &[&StubName], name: &StubName) -> usize
-    ensures within { result ≤ length ordered.now }
-    ensures place { result ≡ position_or_len (λ other. not (is_before other.now.name name.now.name)) ordered.now }
-{
-    for (place, other) in ordered.iter().enumerate() {
-        if !is_before(other.name.bytes(), name.name.bytes()) {
-            return place;
-        }
-    }
-    ordered.len()
 }

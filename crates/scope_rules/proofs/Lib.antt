@@ -1,1 +1,5 @@
 mod FirstLemmas
+pub mod InOrder
+pub mod MentionLemmas
+mod OnePrinted
+pub mod Rising

@@ -6,7 +6,7 @@ use Rattle.scope_rules.specs.NameLists.{has_name, place_of}
 use Rattle.scope_rules.specs.Named.{named}
 use Rattle.scope_rules.specs.Printed.{printed_of}
 use Rattle.scope_rules.specs.Roles.{binds as binds_name, is_store}
-use Rattle.scope_rules.specs.Tables.{ClassRow, everything, locals, classes_from, chain_in, method_named}
+use Rattle.scope_rules.specs.Tables.{ClassScope, everything, locals, classes_from, chain_in, method_named}
 use Rattle.scope_rules.specs.Uses.{uses}
 
 -- the names that a module binds, the attributes that it stores to anywhere, the names that its stub prints, and its functions'
@@ -16,7 +16,7 @@ pub record Scoped : Type 0 where
   pub stored : List ℕ
   pub printed : List ℕ
   pub locals : List (List ℕ)
-  pub classes : List ClassRow
+  pub classes : List ClassScope
 
 abbrev pub scoped : Module → Scoped
 scoped m =
@@ -44,7 +44,7 @@ base_row s class = option_and_then (λ row. row.native) (slice_get s.classes cla
 abbrev pub method : Scoped → ℕ → ℕ → Option ℕ
 method s class name = option_and_then (λ row. method_named row.methods name) (slice_get s.classes class)
 
-abbrev pub binds_in : Option ClassRow → ℕ → Bool
+abbrev pub binds_in : Option ClassScope → ℕ → Bool
 binds_in None name = false
 binds_in (Some row) name = has_name row.bound name
 

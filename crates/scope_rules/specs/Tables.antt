@@ -54,7 +54,7 @@ method_rows (member _ rest) = method_rows rest
 
 -- A class: its name, the class and its bases from the nearest on, the builtin exception class at the end of these, the names
 -- that its body binds, and its methods.
-pub record ClassRow : Type 0 where
+pub record ClassScope : Type 0 where
   pub name : ℕ
   pub chain : List ℕ
   pub native : Option (List ℕ)
@@ -67,26 +67,26 @@ method_named [] n = None
 method_named (row ∷ rows) n = if nat_eq n row.name then Some row.fun else method_named rows n
 
 -- the class of a name, of those before
-abbrev pub class_named : List ClassRow → ℕ → Option ClassRow
+abbrev pub class_named : List ClassScope → ℕ → Option ClassScope
 class_named [] n = None
 class_named (row ∷ rows) n = if nat_eq n row.name then Some row else class_named rows n
 
-abbrev pub base_class : List ClassRow → Option ℕ → Option ClassRow
+abbrev pub base_class : List ClassScope → Option ℕ → Option ClassScope
 base_class earlier None = None
 base_class earlier (Some n) = class_named earlier n
 
-abbrev pub chain_in : Option ClassRow → List ℕ
+abbrev pub chain_in : Option ClassScope → List ℕ
 chain_in None = []
 chain_in (Some row) = row.chain
 
 -- A class has the exception class at its chain's end from its base, which is one or has one.
-abbrev pub native_in : List (List ℕ) → Option ClassRow → Option ℕ → Option (List ℕ)
+abbrev pub native_in : List (List ℕ) → Option ClassScope → Option ℕ → Option (List ℕ)
 native_in texts (Some row) base = row.native
 native_in texts None None = None
 native_in texts None (Some n) = exception_of (text_of texts n)
 
-abbrev pub class_row : List (List ℕ) → List ClassRow → ClassDef → ClassRow
-class_row texts earlier (class_def id name base inside line) =
+abbrev pub class_scope : List (List ℕ) → List ClassScope → ClassDef → ClassScope
+class_scope texts earlier (class_def id name base inside line) =
     record {
       name = name;
       chain = id ∷ chain_in (base_class earlier base);
@@ -96,7 +96,7 @@ class_row texts earlier (class_def id name base inside line) =
     }
 
 -- the classes in their order, after those that are there already
-abbrev pub classes_from : List (List ℕ) → List ClassRow → Stmts → List ClassRow
+abbrev pub classes_from : List (List ℕ) → List ClassScope → Stmts → List ClassScope
 classes_from texts rows no_stmts = rows
-classes_from texts rows (stmt (statement (class c) line) rest) = classes_from texts (rows ++ class_row texts rows c ∷ []) rest
+classes_from texts rows (stmt (statement (class c) line) rest) = classes_from texts (rows ++ class_scope texts rows c ∷ []) rest
 classes_from texts rows (stmt _ rest) = classes_from texts rows rest

@@ -15,13 +15,14 @@ abbrev pub imports : List ImportPart → ℕ → List Mention
 imports [] line = []
 imports (p ∷ ps) line = import_binds p.alias p.path line ++ imports ps line
 
-abbrev pub from_binds : Option ℕ → ℕ → ℕ
-from_binds (Some alias) name = alias
-from_binds None name = name
+-- the name that an import binds: after `as`, or else its own
+abbrev pub bound_by : Option ℕ → ℕ → ℕ
+bound_by (Some alias) name = alias
+bound_by None name = name
 
 abbrev pub froms : List FromPart → ℕ → List Mention
 froms [] line = []
-froms (p ∷ ps) line = at role.Import (from_binds p.alias p.name) line ∷ froms ps line
+froms (p ∷ ps) line = at role.Import (bound_by p.alias p.name) line ∷ froms ps line
 
 -- the name of an `except` clause, at its line
 abbrev pub handler_binds : Option ℕ → ℕ → List Mention

@@ -3,3 +3,7 @@ pub mod FirstBreaks
 pub mod Lists
 pub mod Searching
 pub mod Ways
+pub mod Cuts
+pub mod Nearest
+pub mod Trees
+pub mod MaximalRuns

@@ -6,8 +6,9 @@ use Rattle.stack_code.specs.declared.op.Op.{Op}
 use Rattle.stack_code.specs.declared.code.Range.{Range}
 use Rattle.stack_code.specs.declared.depths.Reached.{Reached}
 use Rattle.stack_code.specs.Effects.{effect_of, falls, goal_of, depth_after, depth_at_goal}
-use Rattle.stack_code.specs.Depths.{Gives, goes_on, jumps, Covers}
-use Rattle.stack_code.specs.Search.{goal_reached, ways, covers, handlers}
+use Rattle.stack_code.specs.Depths.{Gives, goes_on, jumps}
+use Rattle.stack_code.specs.Handlers.{covers}
+use Rattle.stack_code.specs.Search.{goal_reached, ways, handlers}
 
 pub not_empty : {X : Type 0} (x : X) → Contains [] x → ⊥
 not_empty x c = omega (arith, c.1)
@@ -67,24 +68,11 @@ module _ (op : Op) (place depth : ℕ) where
 
 -- ---- ranges
 
-and_both : (x y : Bool) → (x && y) ≡ true → (x ≡ true) × (y ≡ true)
-and_both true y h = (refl, h)
-and_both false y h = cc
-
-pub covers_right : (range : Range) (place : ℕ) → covers range place ≡ true → Covers range place
-covers_right range place h =
-    let both = and_both (nat_le range.first place) (nat_le (suc place) range.past) h in
-    record { from = true_le _ _ both.0; before = omega (arith, true_le (suc place) range.past both.1) }
-
-pub covers_true : (range : Range) (place : ℕ) → Covers range place → covers range place ≡ true
-covers_true range place c =
-    ap (λ b. b && nat_le (suc place) range.past) (le_true range.first place c.from) ∙ le_true (suc place) range.past (omega (arith, c.before))
-
 -- one of the ranges covers the place and gives this
 pub record IsHandled (ranges : List Range) (place : ℕ) (r : Reached) : Type 0 where
   pub range : Range
   pub has : Contains ranges range
-  pub over : Covers range place
+  pub over : covers range place ≡ true
   pub is : record { place = range.goal; depth = range.depth } ≡ r
 
 pub handlers_sound : (ranges : List Range) (place : ℕ) (r : Reached) → Contains (handlers ranges place) r → IsHandled ranges place r
@@ -99,16 +87,16 @@ handlers_sound (range ∷ ranges) place r c = go (covers range place) refl c (ha
     go true e c more = at (in_cases (record { place = range.goal; depth = range.depth }) r (handlers ranges place) c)
       where
         at : (record { place = range.goal; depth = range.depth } ≡ r) ⊎ Contains (handlers ranges place) r → IsHandled (range ∷ ranges) place r
-        at (inl same) = record { range = range; has = first_in range ranges; over = covers_right range place e; is = same }
+        at (inl same) = record { range = range; has = first_in range ranges; over = e; is = same }
         at (inr d) = later (more d)
 
-pub handlers_complete : (ranges : List Range) (place : ℕ) (range : Range) → Contains ranges range → Covers range place → Contains (handlers ranges place) (record { place = range.goal; depth = range.depth })
+pub handlers_complete : (ranges : List Range) (place : ℕ) (range : Range) → Contains ranges range → covers range place ≡ true → Contains (handlers ranges place) (record { place = range.goal; depth = range.depth })
 handlers_complete [] place range c over = absurd (not_empty range c)
 handlers_complete (x ∷ ranges) place range c over = go (in_cases x range ranges c) (handlers_complete ranges place range)
   where
-    go : (x ≡ range) ⊎ Contains ranges range → (Contains ranges range → Covers range place → Contains (handlers ranges place) (record { place = range.goal; depth = range.depth })) → Contains (handlers (x ∷ ranges) place) (record { place = range.goal; depth = range.depth })
+    go : (x ≡ range) ⊎ Contains ranges range → (Contains ranges range → covers range place ≡ true → Contains (handlers ranges place) (record { place = range.goal; depth = range.depth })) → Contains (handlers (x ∷ ranges) place) (record { place = range.goal; depth = range.depth })
     go (inl same) more =
-        subst (λ b. Contains (cond b (record { place = x.goal; depth = x.depth } ∷ handlers ranges place) (handlers ranges place)) (record { place = range.goal; depth = range.depth })) (sym (ap (λ y. covers y place) same ∙ covers_true range place over))
+        subst (λ b. Contains (cond b (record { place = x.goal; depth = x.depth } ∷ handlers ranges place) (handlers ranges place)) (record { place = range.goal; depth = range.depth })) (sym (ap (λ y. covers y place) same ∙ over))
         (subst (λ y. Contains (record { place = y.goal; depth = y.depth } ∷ handlers ranges place) (record { place = range.goal; depth = range.depth })) (sym same) (first_in (record { place = range.goal; depth = range.depth }) (handlers ranges place)))
     go (inr d) more = at (covers x place)
       where

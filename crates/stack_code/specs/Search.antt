@@ -1,11 +1,12 @@
 -- The search for depths: what is found so far, and what a depth that is given changes. The rules are in Depths.
-use Rattle.std.specs.Prelude.{◌≡◌, ℕ, suc, ◌↔◌, Bool, cond, nat_le, nat_eq, ◌&&◌, Option, Some, None, Result, Ok, Err, List, [], ◌∷◌, ◌++◌, length, slice_get, slice_set}
+use Rattle.std.specs.Prelude.{◌≡◌, ℕ, suc, ◌↔◌, cond, nat_le, nat_eq, Option, Some, None, Result, Ok, Err, List, [], ◌∷◌, ◌++◌, length, slice_get, slice_set}
 use Rattle.stack_code.specs.declared.op.Op.{Op}
 use Rattle.stack_code.specs.declared.code.Code.{Code}
 use Rattle.stack_code.specs.declared.code.Range.{Range}
 use Rattle.stack_code.specs.declared.depths.Reached.{Reached}
 use Rattle.stack_code.specs.Effects.{effect_of, falls, goal_of, depth_after, depth_at_goal}
 use Rattle.stack_code.specs.Depths.{HasDepth}
+use Rattle.stack_code.specs.Handlers.{covers}
 
 -- the depths found so far, and the places among them from which the search has yet to go on
 pub record Found : Type 0 where
@@ -40,9 +41,6 @@ ways op place depth =
     (cond (falls op) (record { place = suc place; depth = depth_after op depth } ∷ goal_reached (goal_of op) (depth_at_goal op depth))
     (goal_reached (goal_of op) (depth_at_goal op depth)))
     []
-
-abbrev pub covers : Range → ℕ → Bool
-covers range place = nat_le range.first place && nat_le (suc place) range.past
 
 -- the handlers of the ranges that cover a place
 abbrev pub handlers : List Range → ℕ → List Reached

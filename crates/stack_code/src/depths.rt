@@ -3,8 +3,10 @@ ghost use Rattle.std.specs.Prelude.{◌≡◌, ℕ, ◌+◌, ◌-◌, ◌^◌, �
 ghost use Rattle.std.specs.List.{All};
 ghost use Rattle.stack_code.specs.Depths.{HasDepth};
 ghost use Rattle.stack_code.specs.Validity.{HasTwoDepths};
+ghost use Rattle.stack_code.specs.RangeTrees.{ranges_of, IsBounded};
 ghost use Rattle.stack_code.specs.Search.{with_depth, with_depths, ways, handlers, AreDepths};
 
+use crate::range_tree::{RangeTree, tree_of};
 use crate::{Code, Op, Range};
 use sqlite_items::Items;
 use std::alloc::{AllocError, Global};
@@ -119,19 +121,36 @@ impl Search {
     }
 
     // Gives the handlers of the ranges that cover a place their depths.
-    fn follow_ranges(&mut self, ranges: &[Range], place: u32) -> Result<(), Stop>
-        ensures given { OnOk result (with_depths (handlers ranges.now place) self.old ≡ Ok self.new) }
-        ensures differs { (at : ℕ) → result ≡ Err (Stop.Differs at) → with_depths (handlers ranges.now place) self.old ≡ Err at }
+    fn follow_ranges(&mut self, ranges: &RangeTree, place: u32) -> Result<(), Stop>
+        requires { IsBounded ranges.now }
+        ensures given { OnOk result (with_depths (handlers (ranges_of ranges.now) place) self.old ≡ Ok self.new) }
+        ensures differs { (at : ℕ) → result ≡ Err (Stop.Differs at) → with_depths (handlers (ranges_of ranges.now) place) self.old ≡ Err at }
     {
-        for range in ranges {
-            if range.first <= place && place < range.past {
-                self.give(Reached {
-                    place: range.goal,
-                    depth: range.depth,
-                })?;
+        match ranges {
+            RangeTree::Empty => Ok(()),
+            RangeTree::Leaf(range) => self.follow_range(range, place),
+            RangeTree::Branch(first, past, left, right) => {
+                if *first <= place && place < *past {
+                    self.follow_ranges(left, place)?;
+                    self.follow_ranges(right, place)?;
+                }
+                Ok(())
             }
         }
-        Ok(())
+    }
+
+    // Gives the handler of a range its depth, if the range covers a place.
+    fn follow_range(&mut self, range: &Range, place: u32) -> Result<(), Stop>
+        ensures given { OnOk result (with_depths (handlers (range.now ∷ []) place) self.old ≡ Ok self.new) }
+        ensures differs { (at : ℕ) → result ≡ Err (Stop.Differs at) → with_depths (handlers (range.now ∷ []) place) self.old ≡ Err at }
+    {
+        if !range.covers(place) {
+            return Ok(());
+        }
+        self.give(Reached {
+            place: range.goal,
+            depth: range.depth,
+        })
     }
 }
 
@@ -142,11 +161,13 @@ pub fn depths_of(alloc: Global, code: &Code) -> Result<Items<Option<u32>>, Stop>
     ensures depths { IfOk result (λ depths. AreDepths code.now depths) }
     ensures differs { (place : ℕ) → result ≡ Err (Stop.Differs place) → HasTwoDepths code.now place }
 {
+    let tree = tree_of(alloc, code.ranges.as_slice())?;
+    let ranges = &tree;
     let mut search = Search::new(alloc, code.ops.len())?;
     search.give(Reached { place: 0, depth: 0 })?;
     while let Some(reached) = search.next() {
         search.follow_op(&code.ops.as_slice()[reached.place as usize], reached)?;
-        search.follow_ranges(code.ranges.as_slice(), reached.place)?;
+        search.follow_ranges(ranges, reached.place)?;
     }
     let Search { depths, .. } = search;
     Ok(depths)

@@ -2,6 +2,8 @@
 ghost use Rattle.std.specs.Prelude.{◌≡◌, ◌+◌, ◌-◌, ◌^◌, ◌<◌, length, IfOk};
 ghost use Rattle.std.specs.List.{All};
 
+mod blocks;
+
 use super::*;
 use place_ids::{Id, LineNo, NameId};
 use sqlite_items::Items;

@@ -2,32 +2,36 @@
 ghost use Rattle.std.specs.Prelude.{◌≡◌, ℕ, ◌+◌, ◌-◌, ◌^◌, ◌<◌, ◌↔◌, Some, Err, length, IfOk};
 ghost use Rattle.std.specs.List.{All};
 ghost use Rattle.stack_code.specs.Depths.{HasDepth};
+ghost use Rattle.stack_code.specs.Handlers.{handler_at};
 ghost use Rattle.stack_code.specs.Validity.{IsValid, IsFirst, JumpsStay, JumpsOut, DepthsAgree, HasTwoDepths, SlotsSuffice, Underflows, LiesOut};
 
 use crate::depths::{Stop, depths_of};
 use crate::firsts::{jump_out, range_out, underflow};
-use crate::{Code, CodeFault};
+use crate::handlers::handlers_of;
+use crate::{Code, CodeFault, Range};
 use sqlite_items::Items;
 use std::alloc::Global;
 use std::marker::Model;
 
-/// Valid code, with the depths of its places. Contracts see the code.
+/// Valid code, with the depths and the handlers of its places. Contracts see the code.
 #[derive(Debug, Drop)]
 pub struct ValidCode {
     code: Code,
     depths: Items<Option<u32>>,
+    handlers: Items<Option<Range>>,
 }
 
 impl Model for ValidCode {
     ghost use Rattle.stack_code.specs.declared.code.Code.{Code};
     ghost use Rattle.stack_code.specs.Validity.{IsValid};
     ghost use Rattle.stack_code.specs.Search.{AreDepths};
+    ghost use Rattle.stack_code.specs.Handlers.{AreHandlers};
 
     ghost Value = { Code };
 
     ghost view = { λ v. v.code };
 
-    ghost invariant = { λ v. IsValid v.code × AreDepths v.code v.depths };
+    ghost invariant = { λ v. IsValid v.code × AreDepths v.code v.depths × AreHandlers v.code v.handlers };
 }
 
 impl ValidCode {
@@ -44,6 +48,16 @@ impl ValidCode {
     {
         match self.depths.get(place as usize) {
             Some(depth) => *depth,
+            None => None,
+        }
+    }
+
+    /// The innermost range that covers a place: where an exception that is raised there goes on, if it stays in this code.
+    pub fn handler_at(&self, place: u32) -> Option<Range>
+        ensures { result ≡ handler_at self.now.ranges place }
+    {
+        match self.handlers.get(place as usize) {
+            Some(handler) => *handler,
             None => None,
         }
     }
@@ -78,5 +92,13 @@ pub fn validate(alloc: Global, code: Code) -> Result<ValidCode, CodeFault>
     if let Some(number) = range_out(&code) {
         return Err(CodeFault::RangeOut(number));
     }
-    Ok(ValidCode { code, depths })
+    let handlers = match handlers_of(alloc, &code) {
+        Ok(handlers) => Items::from_vec(handlers),
+        Err(_) => return Err(CodeFault::Memory),
+    };
+    Ok(ValidCode {
+        code,
+        depths,
+        handlers,
+    })
 }

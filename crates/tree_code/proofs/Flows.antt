@@ -1,5 +1,5 @@
 -- The flow of each way to put pieces together.
-use Rattle.std.proofs.Common.{◌≡◌, ℕ, suc, ◌+◌, ◌-◌, ◌<◌, ◌≤◌, true, Some, None, [], ◌∷◌, ◌++◌, length, refl, sym, ap, subst, ◌∙◌, arith, length-append, append_assoc}
+use Rattle.std.proofs.Common.{◌≡◌, ℕ, suc, ◌+◌, ◌-◌, ◌<◌, ◌≤◌, true, Some, None, List, [], ◌∷◌, ◌++◌, length, refl, sym, ap, subst, ◌∙◌, arith, length-append, append_assoc}
 use Rattle.stack_code.specs.declared.op.Op.{Op}
 use Rattle.stack_code.specs.declared.op.Op.TheVariants.{Jump, JumpIfFalse}
 use Rattle.stack_code.specs.Effects.{effect_of, falls, goal_of, depth_after, depth_at_goal}
@@ -8,11 +8,10 @@ use Rattle.tree_code.specs.Flows.{Stands, IsRightAt, AreRight, RangesRight, Labe
 use Rattle.tree_code.proofs.Stands.{stands_split, stands_join, stands_first, stands_last, right_join, ranges_join, first_join}
 
 -- what is asked holds where the depths stand
-pub answered : (Asks : ℕ → (ℕ → ℕ) → ℕ → Type 0) (again out before after : ℕ) (a : Piece) (f : Flows Asks again out before after a) →
-    ((places : ℕ) (ds : ℕ → ℕ) (place : ℕ) → place + a.size < places → Stands ds place (f.depths ++ after ∷ []) → Asks places ds place) → Flows Nothing again out before after a
+pub answered : (Asks : ℕ → (ℕ → ℕ) → ℕ → Type 0) (again out before after : ℕ) {own : List ℕ} (a : Piece) (f : Flows Asks again out before after own a) →
+    ((places : ℕ) (ds : ℕ → ℕ) (place : ℕ) → place + a.size < places → Stands ds place (own ++ after ∷ []) → Asks places ds place) → Flows Nothing again out before after own a
 answered Asks again out before after a f answer =
     record {
-      depths = f.depths;
       count = f.count;
       starts = f.starts;
       sized = f.sized;
@@ -20,14 +19,13 @@ answered Asks again out before after a f answer =
     }
 
 module _ (again out : ℕ) where
-  pub nothing_flows : (depth : ℕ) → Flows Nothing again out depth depth nothing
-  nothing_flows depth = record { depths = []; count = refl; starts = refl; sized = λ labels place. refl; right = λ places ds labels place l k s none. (tt, tt) }
+  pub nothing_flows : (depth : ℕ) → Flows Nothing again out depth depth [] nothing
+  nothing_flows depth = record { count = refl; starts = refl; sized = λ labels place. refl; right = λ places ds labels place l k s none. (tt, tt) }
 
   -- an instruction that does not jump; one that does not go on leaves any depth
-  pub one_flows : (op : Op) (line before after : ℕ) → (effect_of op).needs ≤ before → (falls op ≡ true → after ≡ depth_after op before) → goal_of op ≡ None → Flows Nothing again out before after (one op line)
+  pub one_flows : (op : Op) (line before after : ℕ) → (effect_of op).needs ≤ before → (falls op ≡ true → after ≡ depth_after op before) → goal_of op ≡ None → Flows Nothing again out before after (before ∷ []) (one op line)
   one_flows op line before after enough goes stays =
       record {
-        depths = before ∷ [];
         count = refl;
         starts = refl;
         sized = λ labels place. refl;
@@ -52,10 +50,9 @@ module _ (again out : ℕ) where
     pub leaves : (place : ℕ) → taken ≡ depth_at_goal (jump place) before
 
   pub ahead_flows : (jump : ℕ → Op) (count line before after taken : ℕ) → IsBranch jump before after taken →
-      Flows (λ places ds place. (place + 1 + count < places) × (ds (place + 1 + count) ≡ taken)) again out before after (ahead jump count line)
+      Flows (λ places ds place. (place + 1 + count < places) × (ds (place + 1 + count) ≡ taken)) again out before after (before ∷ []) (ahead jump count line)
   ahead_flows jump count line before after taken b =
       record {
-        depths = before ∷ [];
         count = refl;
         starts = refl;
         sized = λ labels place. refl;
@@ -87,30 +84,27 @@ module _ (again out : ℕ) where
         jumps = λ g e. let same : goal ≡ g = cc in subst (λ x. (x < places) × (ds x ≡ ds place - 0)) same (l, there ∙ sym here ∙ omega arith);
       }
 
-  pub back_flows : (count line before after : ℕ) → Flows (λ places ds place. (place - count < places) × (ds (place - count) ≡ before)) again out before after (back count line)
+  pub back_flows : (count line before after : ℕ) → Flows (λ places ds place. (place - count < places) × (ds (place - count) ≡ before)) again out before after (before ∷ []) (back count line)
   back_flows count line before after =
       record {
-        depths = before ∷ [];
         count = refl;
         starts = refl;
         sized = λ labels place. refl;
         right = λ places ds labels place l k s asked. ((jump_right (place - count) line before after places ds place s.0 asked.0 asked.1, tt), tt);
       }
 
-  pub again_flows : (line after : ℕ) → Flows Nothing again out again after (go_again line)
+  pub again_flows : (line after : ℕ) → Flows Nothing again out again after (again ∷ []) (go_again line)
   again_flows line after =
       record {
-        depths = again ∷ [];
         count = refl;
         starts = refl;
         sized = λ labels place. refl;
         right = λ places ds labels place l k s none. ((jump_right labels.again line again after places ds place s.0 k.again_is_place k.again_depth, tt), tt);
       }
 
-  pub out_flows : (line after : ℕ) → Flows Nothing again out out after (go_out line)
+  pub out_flows : (line after : ℕ) → Flows Nothing again out out after (out ∷ []) (go_out line)
   out_flows line after =
       record {
-        depths = out ∷ [];
         count = refl;
         starts = refl;
         sized = λ labels place. refl;
@@ -118,45 +112,44 @@ module _ (again out : ℕ) where
       }
 
   -- one piece after another
-  pub then_flows : (A B : ℕ → (ℕ → ℕ) → ℕ → Type 0) (before middle after : ℕ) (a b : Piece) → Flows A again out before middle a → Flows B again out middle after b →
-      Flows (λ places ds place. A places ds place × B places ds (place + a.size)) again out before after (a ⨾ b)
-  then_flows A B before middle after a b f g =
+  pub then_flows : (A B : ℕ → (ℕ → ℕ) → ℕ → Type 0) (before middle after : ℕ) {own others : List ℕ} (a b : Piece) → Flows A again out before middle own a → Flows B again out middle after others b →
+      Flows (λ places ds place. A places ds place × B places ds (place + a.size)) again out before after (own ++ others) (a ⨾ b)
+  then_flows A B before middle after {own} {others} a b f g =
       record {
-        depths = f.depths ++ g.depths;
-        count = length-append f.depths g.depths ∙ ap (λ n. n + length g.depths) f.count ∙ ap (λ n. a.size + n) g.count;
-        starts = first_join f.depths g.depths middle after g.starts ∙ f.starts;
+        count = length-append own others ∙ ap (λ n. n + length others) f.count ∙ ap (λ n. a.size + n) g.count;
+        starts = first_join own others middle after g.starts ∙ f.starts;
         sized = λ labels place. length-append (a.code labels place) (b.code labels (place + a.size)) ∙ ap (λ n. n + length (b.code labels (place + a.size))) (f.sized labels place) ∙ ap (λ n. a.size + n) (g.sized labels (place + a.size));
         right = λ places ds labels place l k s asked. right places ds labels place l k s asked;
       }
     where
-      right : (places : ℕ) (ds : ℕ → ℕ) (labels : Labels) (place : ℕ) → place + (a.size + b.size) < places → LabelsRight again out places ds labels → Stands ds place ((f.depths ++ g.depths) ++ after ∷ []) → A places ds place × B places ds (place + a.size) →
+      right : (places : ℕ) (ds : ℕ → ℕ) (labels : Labels) (place : ℕ) → place + (a.size + b.size) < places → LabelsRight again out places ds labels → Stands ds place ((own ++ others) ++ after ∷ []) → A places ds place × B places ds (place + a.size) →
           AreRight places ds place (a.code labels place ++ b.code labels (place + a.size)) × RangesRight places ds (a.ranges place ++ b.ranges (place + a.size))
       right places ds labels place l k s asked =
-          let parts : Stands ds place f.depths × Stands ds (place + length f.depths) (g.depths ++ after ∷ []) = stands_split ds f.depths (g.depths ++ after ∷ []) place (subst (λ xs. Stands ds place xs) (append_assoc f.depths g.depths (after ∷ [])) s) in
-          let there : Stands ds (place + a.size) (g.depths ++ after ∷ []) = subst (λ n. Stands ds (place + n) (g.depths ++ after ∷ [])) f.count parts.1 in
-          let between : ds (place + length f.depths) ≡ middle = stands_first ds g.depths after (place + length f.depths) parts.1 ∙ g.starts in
-          let here : Stands ds place (f.depths ++ middle ∷ []) = stands_join ds f.depths (middle ∷ []) place parts.0 (between, tt) in
+          let parts : Stands ds place own × Stands ds (place + length own) (others ++ after ∷ []) = stands_split ds own (others ++ after ∷ []) place (subst (λ xs. Stands ds place xs) (append_assoc own others (after ∷ [])) s) in
+          let there : Stands ds (place + a.size) (others ++ after ∷ []) = subst (λ n. Stands ds (place + n) (others ++ after ∷ [])) f.count parts.1 in
+          let between : ds (place + length own) ≡ middle = stands_first ds others after (place + length own) parts.1 ∙ g.starts in
+          let here : Stands ds place (own ++ middle ∷ []) = stands_join ds own (middle ∷ []) place parts.0 (between, tt) in
           let one : AreRight places ds place (a.code labels place) × RangesRight places ds (a.ranges place) = f.right places ds labels place (omega (arith, l)) k here asked.0 in
           let two : AreRight places ds (place + a.size) (b.code labels (place + a.size)) × RangesRight places ds (b.ranges (place + a.size)) = g.right places ds labels (place + a.size) (omega (arith, l)) k there asked.1 in (
             right_join ds places (a.code labels place) (b.code labels (place + a.size)) place one.0 (subst (λ n. AreRight places ds (place + n) (b.code labels (place + a.size))) (sym (f.sized labels place)) two.0),
             ranges_join ds places (a.ranges place) (b.ranges (place + a.size)) one.1 two.1,
           )
 
-  pub both_flow : (before middle after : ℕ) (a b : Piece) → Flows Nothing again out before middle a → Flows Nothing again out middle after b → Flows Nothing again out before after (a ⨾ b)
+  pub both_flow : (before middle after : ℕ) {own others : List ℕ} (a b : Piece) → Flows Nothing again out before middle own a → Flows Nothing again out middle after others b → Flows Nothing again out before after (own ++ others) (a ⨾ b)
   both_flow before middle after a b f g =
       answered (λ places ds place. Nothing places ds place × Nothing places ds (place + a.size)) again out before after (a ⨾ b) (then_flows Nothing Nothing before middle after a b f g) (λ places ds place l s. (tt, tt))
 
   -- where the depths of a piece stand, the place after it has the last one
-  pub ends_at : (Asks : ℕ → (ℕ → ℕ) → ℕ → Type 0) (before after : ℕ) (a : Piece) (f : Flows Asks again out before after a) (ds : ℕ → ℕ) (place : ℕ) → Stands ds place (f.depths ++ after ∷ []) → ds (place + a.size) ≡ after
-  ends_at Asks before after a f ds place s = subst (λ n. ds (place + n) ≡ after) f.count (stands_last ds f.depths after place s)
+  pub ends_at : (Asks : ℕ → (ℕ → ℕ) → ℕ → Type 0) (before after : ℕ) {own : List ℕ} (a : Piece) (f : Flows Asks again out before after own a) (ds : ℕ → ℕ) (place : ℕ) → Stands ds place (own ++ after ∷ []) → ds (place + a.size) ≡ after
+  ends_at Asks before after {own} a f ds place s = subst (λ n. ds (place + n) ≡ after) f.count (stands_last ds own after place s)
 
-  pub begins_at : (Asks : ℕ → (ℕ → ℕ) → ℕ → Type 0) (before after : ℕ) (a : Piece) (f : Flows Asks again out before after a) (ds : ℕ → ℕ) (place : ℕ) → Stands ds place (f.depths ++ after ∷ []) → ds place ≡ before
-  begins_at Asks before after a f ds place s = stands_first ds f.depths after place s ∙ f.starts
+  pub begins_at : (Asks : ℕ → (ℕ → ℕ) → ℕ → Type 0) (before after : ℕ) {own : List ℕ} (a : Piece) (f : Flows Asks again out before after own a) (ds : ℕ → ℕ) (place : ℕ) → Stands ds place (own ++ after ∷ []) → ds place ≡ before
+  begins_at Asks before after {own} a f ds place s = stands_first ds own after place s ∙ f.starts
 
-  pub over_flows : (jump : ℕ → Op) (line before middle after : ℕ) (a : Piece) → IsBranch jump before middle after → Flows Nothing again out middle after a → Flows Nothing again out before after (over jump line a)
-  over_flows jump line before middle after a b f =
+  pub over_flows : (jump : ℕ → Op) (line before middle after : ℕ) {own : List ℕ} (a : Piece) → IsBranch jump before middle after → Flows Nothing again out middle after own a → Flows Nothing again out before after (before ∷ own) (over jump line a)
+  over_flows jump line before middle after {own} a b f =
       let Asks : ℕ → (ℕ → ℕ) → ℕ → Type 0 = λ places ds place. ((place + 1 + a.size < places) × (ds (place + 1 + a.size) ≡ after)) × Nothing places ds (place + 1) in
-      let both : Flows Asks again out before after (over jump line a) =
+      let both : Flows Asks again out before after (before ∷ own) (over jump line a) =
       then_flows (λ places ds place. (place + 1 + a.size < places) × (ds (place + 1 + a.size) ≡ after)) Nothing before middle after (ahead jump a.size line) a (ahead_flows jump a.size line before middle after b) f in
       answered Asks again out before after (over jump line a) both
       (λ places ds place l s. ((omega (arith, l), subst (λ n. ds n ≡ after) (omega arith) (ends_at Asks before after (over jump line a) both ds place s)), tt))
@@ -167,64 +160,61 @@ module _ (again out : ℕ) where
   fork_branch depth = record { goal = λ place. refl; enough = λ place. omega arith; goes = λ place f. omega arith; leaves = λ place. omega arith }
 
   -- `a Jump E b E:`, where the depth at b is the one that is led to it
-  pub past_flows : (line before start after : ℕ) (a b : Piece) → Flows Nothing again out before after a → Flows Nothing again out start after b → Flows Nothing again out before after (past line a b)
-  past_flows line before start after a b f g =
+  pub past_flows : (line before start after : ℕ) {own others : List ℕ} (a b : Piece) → Flows Nothing again out before after own a → Flows Nothing again out start after others b → Flows Nothing again out before after (own ++ after ∷ others) (past line a b)
+  past_flows line before start after {own} {others} a b f g =
       let Ends : ℕ → (ℕ → ℕ) → ℕ → Type 0 = λ places ds place. (place + 1 + b.size < places) × (ds (place + 1 + b.size) ≡ after) in
       let Tail : ℕ → (ℕ → ℕ) → ℕ → Type 0 = λ places ds place. Ends places ds place × Nothing places ds (place + 1) in
-      let tail : Flows Tail again out after after (ahead Jump b.size line ⨾ b) = then_flows Ends Nothing after start after (ahead Jump b.size line) b (ahead_flows Jump b.size line after start after (jump_branch after start)) g in
+      let tail : Flows Tail again out after after (after ∷ others) (ahead Jump b.size line ⨾ b) = then_flows Ends Nothing after start after (ahead Jump b.size line) b (ahead_flows Jump b.size line after start after (jump_branch after start)) g in
       let Asks : ℕ → (ℕ → ℕ) → ℕ → Type 0 = λ places ds place. Nothing places ds place × Tail places ds (place + a.size) in
-      let whole : Flows Asks again out before after (past line a b) = then_flows Nothing Tail before after after a (ahead Jump b.size line ⨾ b) f tail in
+      let whole : Flows Asks again out before after (own ++ after ∷ others) (past line a b) = then_flows Nothing Tail before after after a (ahead Jump b.size line ⨾ b) f tail in
       answered Asks again out before after (past line a b) whole
       (λ places ds place l s. (tt, ((omega (arith, l), subst (λ n. ds n ≡ after) (omega arith) (ends_at Asks before after (past line a b) whole ds place s)), tt)))
 
   -- in it, b begins with its depth
-  pub past_middle : (line before start after : ℕ) (a b : Piece) (f : Flows Nothing again out before after a) (g : Flows Nothing again out start after b) (ds : ℕ → ℕ) (place : ℕ) →
-      Stands ds place ((past_flows line before start after a b f g).depths ++ after ∷ []) → ds (place + (a.size + 1)) ≡ start
-  unfolding past_flows then_flows answered ahead_flows
-  past_middle line before start after a b f g ds place s =
-      let whole : Stands ds place ((f.depths ++ (after ∷ g.depths)) ++ after ∷ []) = s in
-      let parts : Stands ds place f.depths × Stands ds (place + length f.depths) (after ∷ (g.depths ++ after ∷ [])) = stands_split ds f.depths (after ∷ (g.depths ++ after ∷ [])) place (subst (λ xs. Stands ds place xs) (append_assoc f.depths (after ∷ g.depths) (after ∷ [])) whole) in
-      subst (λ n. ds n ≡ start) (omega (arith, f.count)) (stands_first ds g.depths after (suc (place + length f.depths)) parts.1.1 ∙ g.starts)
+  pub past_middle : (start after : ℕ) {before : ℕ} {own others : List ℕ} (a b : Piece) (f : Flows Nothing again out before after own a) (g : Flows Nothing again out start after others b) (ds : ℕ → ℕ) (place : ℕ) →
+      Stands ds place ((own ++ after ∷ others) ++ after ∷ []) → ds (place + (a.size + 1)) ≡ start
+  past_middle start after {own = own} {others = others} a b f g ds place s =
+      let parts : Stands ds place own × Stands ds (place + length own) (after ∷ (others ++ after ∷ [])) = stands_split ds own (after ∷ (others ++ after ∷ [])) place (subst (λ xs. Stands ds place xs) (append_assoc own (after ∷ others) (after ∷ [])) s) in
+      subst (λ n. ds n ≡ start) (omega (arith, f.count)) (stands_first ds others after (suc (place + length own)) parts.1.1 ∙ g.starts)
 
-  pub fork_flows : (line depth after : ℕ) (a b : Piece) → Flows Nothing again out depth after a → Flows Nothing again out depth after b → Flows Nothing again out (suc depth) after (fork line a b)
-  unfolding then_flows ahead_flows
-  fork_flows line depth after a b f g =
+  pub fork_flows : (line depth after : ℕ) {own others : List ℕ} (a b : Piece) → Flows Nothing again out depth after own a → Flows Nothing again out depth after others b → Flows Nothing again out (suc depth) after (suc depth ∷ own ++ after ∷ others) (fork line a b)
+  fork_flows line depth after {own} {others} a b f g =
       let Asks : ℕ → (ℕ → ℕ) → ℕ → Type 0 = λ places ds place. ((place + 1 + (a.size + 1) < places) × (ds (place + 1 + (a.size + 1)) ≡ depth)) × Nothing places ds (place + 1) in
-      let rest : Flows Nothing again out depth after (past line a b) = past_flows line depth depth after a b f g in
-      let both : Flows Asks again out (suc depth) after (fork line a b) =
+      let rest : Flows Nothing again out depth after (own ++ after ∷ others) (past line a b) = past_flows line depth depth after a b f g in
+      let both : Flows Asks again out (suc depth) after (suc depth ∷ own ++ after ∷ others) (fork line a b) =
       then_flows (λ places ds place. (place + 1 + (a.size + 1) < places) × (ds (place + 1 + (a.size + 1)) ≡ depth)) Nothing (suc depth) depth after (ahead JumpIfFalse (a.size + 1) line) (past line a b)
       (ahead_flows JumpIfFalse (a.size + 1) line (suc depth) depth depth (fork_branch depth)) rest in
       answered Asks again out (suc depth) after (fork line a b) both
-      (λ places ds place l s. ((omega (arith, l), subst (λ n. ds n ≡ depth) (omega arith) (past_middle line depth depth after a b f g ds (suc place) s.1)), tt))
+      (λ places ds place l s. ((omega (arith, l), subst (λ n. ds n ≡ depth) (omega arith) (past_middle depth after a b f g ds (suc place) s.1)), tt))
 
   -- ---- loops
 
-  pub within_flows : (k m inner outer before after : ℕ) (a : Piece) → Flows Nothing inner outer before after a →
-      Flows (λ places ds place. LabelsRight inner outer places ds (record { again = place - k; out = place + a.size + m })) again out before after (within k m a)
+  pub within_flows : (k m inner outer before after : ℕ) {own : List ℕ} (a : Piece) → Flows Nothing inner outer before after own a →
+      Flows (λ places ds place. LabelsRight inner outer places ds (record { again = place - k; out = place + a.size + m })) again out before after own (within k m a)
   within_flows k m inner outer before after a f =
       record {
-        depths = f.depths;
         count = f.count;
         starts = f.starts;
         sized = λ labels place. f.sized (record { again = place - k; out = place + a.size + m }) place;
         right = λ places ds labels place l k' s asked. f.right places ds (record { again = place - k; out = place + a.size + m }) place l asked s tt;
       }
 
-  pub loop_flows : (leave : ℕ → Op) (line depth before start after : ℕ) (test body : Piece) → Flows Nothing again out depth before test → IsBranch leave before start after → Flows Nothing depth after start depth body → Flows Nothing again out depth after (loop leave line test body)
-  loop_flows leave line depth before start after test body f b g =
+  pub loop_flows : (leave : ℕ → Op) (line depth before start after : ℕ) {tested inside : List ℕ} (test body : Piece) → Flows Nothing again out depth before tested test → IsBranch leave before start after → Flows Nothing depth after start depth inside body
+      → Flows Nothing again out depth after (tested ++ (before ∷ inside ++ depth ∷ [])) (loop leave line test body)
+  loop_flows leave line depth before start after {tested} {inside} test body f b g =
       let n : ℕ = test.size in
       let m : ℕ = body.size in
       let Leaves : ℕ → (ℕ → ℕ) → ℕ → Type 0 = λ places ds place. (place + 1 + (m + 1) < places) × (ds (place + 1 + (m + 1)) ≡ after) in
       let Labelled : ℕ → (ℕ → ℕ) → ℕ → Type 0 = λ places ds place. LabelsRight depth after places ds (record { again = place - (n + 1); out = place + m + 1 }) in
       let Backs : ℕ → (ℕ → ℕ) → ℕ → Type 0 = λ places ds place. (place - (n + 1 + m) < places) × (ds (place - (n + 1 + m)) ≡ depth) in
       let Third : ℕ → (ℕ → ℕ) → ℕ → Type 0 = λ places ds place. Labelled places ds place × Backs places ds (place + m) in
-      let third : Flows Third again out start after (within (n + 1) 1 body ⨾ back (n + 1 + m) line) =
+      let third : Flows Third again out start after (inside ++ depth ∷ []) (within (n + 1) 1 body ⨾ back (n + 1 + m) line) =
       then_flows Labelled Backs start depth after (within (n + 1) 1 body) (back (n + 1 + m) line) (within_flows (n + 1) 1 depth after start depth body g) (back_flows (n + 1 + m) line depth after) in
       let Second : ℕ → (ℕ → ℕ) → ℕ → Type 0 = λ places ds place. Leaves places ds place × Third places ds (place + 1) in
-      let second : Flows Second again out before after (ahead leave (m + 1) line ⨾ within (n + 1) 1 body ⨾ back (n + 1 + m) line) =
+      let second : Flows Second again out before after (before ∷ inside ++ depth ∷ []) (ahead leave (m + 1) line ⨾ within (n + 1) 1 body ⨾ back (n + 1 + m) line) =
       then_flows Leaves Third before start after (ahead leave (m + 1) line) (within (n + 1) 1 body ⨾ back (n + 1 + m) line) (ahead_flows leave (m + 1) line before start after b) third in
       let Asks : ℕ → (ℕ → ℕ) → ℕ → Type 0 = λ places ds place. Nothing places ds place × Second places ds (place + n) in
-      let whole : Flows Asks again out depth after (loop leave line test body) =
+      let whole : Flows Asks again out depth after (tested ++ (before ∷ inside ++ depth ∷ [])) (loop leave line test body) =
       then_flows Nothing Second depth before after test (ahead leave (m + 1) line ⨾ within (n + 1) 1 body ⨾ back (n + 1 + m) line) f second in
       answered Asks again out depth after (loop leave line test body) whole
       (λ places ds place l s.
@@ -247,11 +237,11 @@ module _ (again out : ℕ) where
 
   -- ---- `try`
 
-  pub guarded_flows : (depth line before after : ℕ) (body otherwise handling : Piece) → Flows Nothing again out before after (body ⨾ otherwise) → Flows Nothing again out depth after handling → Flows Nothing again out before after (guarded depth line body otherwise handling)
-  guarded_flows depth line before after body otherwise handling f g =
-      let past : Flows Nothing again out before after (Rattle.tree_code.specs.Pieces.past line (body ⨾ otherwise) handling) = past_flows line before depth after (body ⨾ otherwise) handling f g in
+  pub guarded_flows : (depth line before after : ℕ) {own others : List ℕ} (body otherwise handling : Piece) → Flows Nothing again out before after own (body ⨾ otherwise) → Flows Nothing again out depth after others handling
+      → Flows Nothing again out before after (own ++ after ∷ others) (guarded depth line body otherwise handling)
+  guarded_flows depth line before after {own} {others} body otherwise handling f g =
+      let past : Flows Nothing again out before after (own ++ after ∷ others) (Rattle.tree_code.specs.Pieces.past line (body ⨾ otherwise) handling) = past_flows line before depth after (body ⨾ otherwise) handling f g in
       record {
-        depths = past.depths;
         count = past.count;
         starts = past.starts;
         sized = past.sized;
@@ -261,7 +251,7 @@ module _ (again out : ℕ) where
               (
                 (
                   record { ordered = omega arith; within = omega (arith, l); handler = omega (arith, l) },
-                  subst (λ p. ds p ≡ depth) (omega arith) (past_middle line before depth after (body ⨾ otherwise) handling f g ds place s),
+                  subst (λ p. ds p ≡ depth) (omega arith) (past_middle depth after (body ⨾ otherwise) handling f g ds place s),
                 ),
                 r.1,
               ),

@@ -4,3 +4,10 @@ pub mod ValueFlows
 pub mod StatementFlows
 pub mod ValidCode
 pub mod Programs
+pub mod Solid
+pub mod SolidTrees
+pub mod Ranges
+pub mod Parts
+pub mod PartDepths
+pub mod Bodies
+pub mod Numbers

@@ -12,6 +12,7 @@ use Rattle.tree_code.specs.declared.instr.Instr.{Instr}
 use Rattle.tree_code.specs.Pieces.{Piece, one, instr, ◌⨾◌}
 use Rattle.tree_code.specs.Flows.{Stands, IsRightAt, AreRight, RangesRight, Flows, Nothing}
 use Rattle.tree_code.specs.Programs.{no_loop, closed}
+use Rattle.tree_code.specs.Depths.{DepthsAt}
 use Rattle.tree_code.proofs.Stands.{stands_first, stands_last, right_join}
 
 -- a list stands where it is read
@@ -45,49 +46,63 @@ module _ (places : ℕ) (ds : ℕ → ℕ) where
   contained_at (x ∷ rs) r right (zero, l, e) = subst (λ y. IsRangeOf places y × (ds y.goal ≡ y.depth)) e right.0
   contained_at (x ∷ rs) r right (suc k, l, e) = contained_at rs r right.1 (k, omega (arith, l), e)
 
-  module _ (code : Code) (size : length code.ops ≡ places) (begin : ds 0 ≡ 0) (all : (place : ℕ) (op : Op) → slice_get code.ops place ≡ Some op → IsRightAt places ds place op) (ranges : RangesRight places ds code.ranges) where
-    depth_is : (place depth : ℕ) → HasDepth code place depth → ds place ≡ depth
-    depth_is place depth (begins l) = begin
-    depth_is place depth (given {from = from} {before = before} {op = op} h stands gives l) = go place depth gives (depth_is from before h)
-      where
-        go : (to after : ℕ) → Gives op from before to after → ds from ≡ before → ds to ≡ after
-        go to after (goes_on enough f) here = (all from op stands).goes_on f ∙ ap (depth_after op) here
-        go to after (jumps {goal = goal} enough g) here = ((all from op stands).jumps goal g).1 ∙ ap (depth_at_goal op) here
-    depth_is place depth (handles {range = range} h c over l) = (contained_at code.ranges range ranges c).1
+-- the depths fit the code: the first place has none, and each instruction and range is right
+pub record Fits (code : Code) (ds : ℕ → ℕ) : Type 0 where
+  pub begin : ds 0 ≡ 0
+  pub all : (place : ℕ) (op : Op) → slice_get code.ops place ≡ Some op → IsRightAt (length code.ops) ds place op
+  pub ranges : RangesRight (length code.ops) ds code.ranges
 
-    pub is_valid : IsValid code
-    is_valid =
-        record {
-          jumps = λ place goal op stands e. omega (arith, ((all place op stands).jumps goal e).0, size);
-          depths = λ place one other h k. sym (depth_is place one h) ∙ depth_is place other k;
-          slots = λ place depth op stands h. subst (λ d. (effect_of op).needs ≤ d) (depth_is place depth h) (all place op stands).enough;
-          ranges = λ number range e. subst (λ n. IsRangeOf n range) (sym size) (range_at code.ranges number range ranges e).0;
-        }
+module _ (code : Code) (ds : ℕ → ℕ) (f : Fits code ds) where
+  pub depth_is : (place depth : ℕ) → HasDepth code place depth → ds place ≡ depth
+  depth_is place depth (begins l) = f.begin
+  depth_is place depth (given {from = from} {before = before} {op = op} h stands gives l) = go place depth gives (depth_is from before h)
+    where
+      go : (to after : ℕ) → Gives op from before to after → ds from ≡ before → ds to ≡ after
+      go to after (goes_on enough falls) here = (f.all from op stands).goes_on falls ∙ ap (depth_after op) here
+      go to after (jumps {goal = goal} enough leads) here = ((f.all from op stands).jumps goal leads).1 ∙ ap (depth_at_goal op) here
+  depth_is place depth (handles {range = range} h c over l) = (contained_at (length code.ops) ds code.ranges range f.ranges c).1
 
-pub closed_valid : (a : Piece) (after : ℕ) → Flows Nothing 0 0 0 after a → (last : Op) (line : ℕ) → (effect_of last).needs ≤ after → falls last ≡ false → goal_of last ≡ None → (locals params : ℕ) → IsValid (closed (a ⨾ one last line) locals params)
-closed_valid a after f last line enough ends stays locals params =
-    is_valid places ds (closed (a ⨾ one last line) locals params) size begin all ranges
+  pub is_valid : IsValid code
+  is_valid =
+      record {
+        jumps = λ place goal op stands e. ((f.all place op stands).jumps goal e).0;
+        depths = λ place one other h k. sym (depth_is place one h) ∙ depth_is place other k;
+        slots = λ place depth op stands h. subst (λ d. (effect_of op).needs ≤ d) (depth_is place depth h) (f.all place op stands).enough;
+        ranges = λ number range e. (range_at (length code.ops) ds code.ranges number range f.ranges e).0;
+      }
+
+-- the depths of a piece and of the instruction behind it
+abbrev pub listed : List ℕ → ℕ → ℕ → ℕ
+listed own after place = get_or (own ++ after ∷ []) place 0
+
+pub closed_fits : (a : Piece) (after : ℕ) {own : List ℕ} → Flows Nothing 0 0 0 after own a → (last : Op) (line : ℕ) → (effect_of last).needs ≤ after → falls last ≡ false → goal_of last ≡ None → (locals params : ℕ)
+    → Fits (closed (a ⨾ one last line) locals params) (listed own after)
+closed_fits a after {own} f last line enough ends stays locals params =
+    record { begin = begin; all = subst (λ n. AllRight n) (sym size) all; ranges = subst (λ n. RangesRight n ds (a.ranges 0 ++ [])) (sym size) ranges }
   where
     places : ℕ
     places = a.size + 1
 
     ds : ℕ → ℕ
-    ds = λ p. get_or (f.depths ++ after ∷ []) p 0
+    ds = listed own after
 
     whole : List Instr
     whole = a.code no_loop 0 ++ instr last line ∷ []
 
+    AllRight : ℕ → Type 0
+    AllRight n = (place : ℕ) (op : Op) → slice_get (map (λ i. i.op) whole) place ≡ Some op → IsRightAt n ds place op
+
     size : length (map (λ i. i.op) whole) ≡ places
     size = length-map whole (λ i. i.op) ∙ length-append (a.code no_loop 0) (instr last line ∷ []) ∙ ap (λ n. n + 1) (f.sized no_loop 0)
 
-    stands : Stands ds 0 (f.depths ++ after ∷ [])
-    stands = stands_list [] (f.depths ++ after ∷ [])
+    stands : Stands ds 0 (own ++ after ∷ [])
+    stands = stands_list [] (own ++ after ∷ [])
 
     begin : ds 0 ≡ 0
-    begin = stands_first ds f.depths after 0 stands ∙ f.starts
+    begin = stands_first ds own after 0 stands ∙ f.starts
 
     end : ds a.size ≡ after
-    end = let e : a.size ≡ 0 + length f.depths = omega (arith, f.count) in ap ds e ∙ stands_last ds f.depths after 0 stands
+    end = let e : a.size ≡ 0 + length own = omega (arith, f.count) in ap ds e ∙ stands_last ds own after 0 stands
 
     right : AreRight places ds 0 (a.code no_loop 0) × RangesRight places ds (a.ranges 0)
     right = f.right places ds no_loop 0 (omega arith) (record { again_is_place = omega arith; out_is_place = omega arith; again_depth = begin; out_depth = begin }) stands tt
@@ -112,3 +127,17 @@ closed_valid a after f last line enough ends stays locals params =
         right_ranges : (rs : List Range) → RangesRight places ds rs → RangesRight places ds (rs ++ [])
         right_ranges [] r = tt
         right_ranges (x ∷ rs) r = (r.0, right_ranges rs r.1)
+
+-- a list that stands names the depth of each place that has one
+stands_depths : (code : Code) (ds : ℕ → ℕ) → ((place depth : ℕ) → HasDepth code place depth → ds place ≡ depth) → (xs : List ℕ) (place : ℕ) → Stands ds place xs → DepthsAt code place xs
+stands_depths code ds is [] place s = tt
+stands_depths code ds is (x ∷ xs) place s = ((λ depth h. sym (is place depth h) ∙ s.0), stands_depths code ds is xs (suc place) s.1)
+
+module _ (a : Piece) (after : ℕ) {own : List ℕ} (f : Flows Nothing 0 0 0 after own a) (last : Op) (line : ℕ) (enough : (effect_of last).needs ≤ after) (ends : falls last ≡ false) (stays : goal_of last ≡ None) (locals params : ℕ) where
+  pub closed_valid : IsValid (closed (a ⨾ one last line) locals params)
+  closed_valid = is_valid (closed (a ⨾ one last line) locals params) (listed own after) (closed_fits a after f last line enough ends stays locals params)
+
+  pub closed_depths : DepthsAt (closed (a ⨾ one last line) locals params) 0 (own ++ after ∷ [])
+  closed_depths =
+      stands_depths (closed (a ⨾ one last line) locals params) (listed own after) (depth_is (closed (a ⨾ one last line) locals params) (listed own after) (closed_fits a after f last line enough ends stays locals params))
+      (own ++ after ∷ []) 0 (stands_list [] (own ++ after ∷ []))

@@ -39,9 +39,8 @@ abbrev pub first_depth : List ℕ → ℕ → ℕ
 first_depth [] after = after
 first_depth (d ∷ ds) after = d
 
--- The depths of a piece's instructions. Wherever they stand, with the depth after them and what else is asked, the instructions are right; `continue` and `break` find the depths again and out
-pub record Flows (Asks : ℕ → (ℕ → ℕ) → ℕ → Type 0) (again out before after : ℕ) (a : Piece) : Type 0 where
-  pub depths : List ℕ
+-- These are the depths of a piece's instructions. Wherever they stand, with the depth after them and what else is asked, the instructions are right; `continue` and `break` find the depths again and out
+pub record Flows (Asks : ℕ → (ℕ → ℕ) → ℕ → Type 0) (again out before after : ℕ) (depths : List ℕ) (a : Piece) : Type 0 where
   pub count : length depths ≡ a.size
   pub starts : first_depth depths after ≡ before
   pub sized : (labels : Labels) (place : ℕ) → length (a.code labels place) ≡ a.size

@@ -4,3 +4,6 @@ pub mod Expressions
 pub mod Statements
 pub mod Programs
 pub mod Flows
+pub mod Depths
+pub mod Numbers
+pub mod Standing

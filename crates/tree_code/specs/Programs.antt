@@ -9,7 +9,7 @@ use Rattle.scope_rules.specs.Tables.{locals_of}
 use Rattle.tree_code.specs.declared.rows.FunRow.{FunRow}
 use Rattle.tree_code.specs.declared.rows.ClassRow.{ClassRow}
 use Rattle.tree_code.specs.Pieces.{Piece, nothing, one, ◌⨾◌, Labels}
-use Rattle.tree_code.specs.Statements.{body_code}
+use Rattle.tree_code.specs.Statements.{Place, body_code}
 
 -- a piece that stands by itself, from place 0 on. Outside loops no jump leads to a loop's labels
 abbrev pub no_loop : Labels
@@ -34,13 +34,26 @@ abbrev pub params_code : ℕ → ℕ → List Param → Piece
 params_code line number [] = nothing
 params_code line number (p ∷ ps) = one (op.Param number) line ⨾ params_code line (suc number) ps
 
+-- where the statements of a function and those of a module stand
+abbrev pub in_function : ℕ → FunDef → Place
+in_function error f = record { locals = locals_of f; error = error; depth = 0; keeps = false }
+
+abbrev pub in_module : ℕ → Place
+in_module error = record { locals = []; error = error; depth = 0; keeps = false }
+
 abbrev pub fun_piece : ℕ → FunDef → Piece
 fun_piece error (fun_def id n params body line) =
-    (params_code line 0 params ⨾ body_code (record { locals = locals_of (fun_def id n params body line); error = error; depth = 0; keeps = false }) body ⨾ one (op.Const kind.NoneValue) line)
+    (params_code line 0 params ⨾ body_code (in_function error (fun_def id n params body line)) body ⨾ one (op.Const kind.NoneValue) line)
     ⨾ one op.Return line
 
 abbrev pub params_of : FunDef → List Param
 params_of (fun_def id n params body line) = params
+
+abbrev pub statements_of : FunDef → Stmts
+statements_of (fun_def id n params body line) = body
+
+abbrev pub line_of : FunDef → ℕ
+line_of (fun_def id n params body line) = line
 
 abbrev pub fun_code : ℕ → FunDef → Code
 fun_code error f = closed (fun_piece error f) (length (locals_of f)) (length (params_of f))
@@ -51,7 +64,7 @@ last_line line no_stmts = line
 last_line line (stmt (statement kind own) rest) = last_line own rest
 
 abbrev pub module_piece : ℕ → Stmts → Piece
-module_piece error body = body_code (record { locals = []; error = error; depth = 0; keeps = false }) body ⨾ one op.End (last_line 1 body)
+module_piece error body = body_code (in_module error) body ⨾ one op.End (last_line 1 body)
 
 abbrev pub module_code : ℕ → Stmts → Code
 module_code error body = closed (module_piece error body) 0 0

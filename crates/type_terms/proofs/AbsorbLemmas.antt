@@ -1,14 +1,14 @@
 -- Which exception classes go, told by names instead of by the terms beside them.
-use Rattle.std.proofs.Common.{◌≡◌, ℕ, Bool, true, false, ◌||◌, List, [], ◌∷◌, if◌then◌else◌, Option, Some, None, refl, sym, ap, ◌∙◌, subst, true≢false, inl, inr}
+use Rattle.std.proofs.Common.{◌≡◌, ℕ, Bool, true, false, not, ◌||◌, List, [], ◌∷◌, if◌then◌else◌, Option, Some, None, refl, sym, ap, ◌∙◌, subst, true≢false, inl, inr}
 use Rattle.std.specs.List.{list_any, list_all}
 use Rattle.std.specs.Str.{bytes_eq}
 use Rattle.std.specs.Cmp.Lexicographic.{bytes_decides}
 use Rattle.type_terms.specs.Exceptions.{is_exception, exception_chain, heads, first_chain}
-use Rattle.type_terms.specs.Normal.{IsAmong, here, there, AreMembersOf, IsUnionOf, nothing, alone, several, Rises, above, is_class, has_class, has_any, is_absorbed}
-use Rattle.type_terms.specs.Ordered.{Tells, exception_of, is_below, with_term, in_order, united}
+use Rattle.type_terms.specs.Normal.{IsAmong, here, there, AreMembersOf, IsUnionOf, nothing, alone, several, above, is_class, has_class, has_any, is_absorbed}
+use Rattle.type_terms.specs.Ordered.{AreInOrder, Tells, exception_of, is_below, staying, united}
 use Rattle.type_terms.specs.Terms.{Term, class}
 use Rattle.type_terms.proofs.ChainLemmas.{chain_found, all_chains, parts}
-use Rattle.type_terms.proofs.OrderLemmas.{rises_with, among_with, with_has, with_keeps, split_among}
+use Rattle.type_terms.proofs.OrderLemmas.{split_among}
 
 -- ---- the classes above a class are exception classes
 
@@ -43,43 +43,38 @@ module _ (names : List (List ℕ)) (ts : List Term) (tells : Tells names ts) whe
 
 -- ---- the terms that stay, in order
 
-pub rises_in : (names : List (List ℕ)) (ts : List Term) → Rises (in_order names ts)
-rises_in names [] = tt
-rises_in names (t ∷ ts) = elim (is_below names t) as (λ b. Rises (if b then in_order names ts else with_term t (in_order names ts))) [
-  | true ↦ rises_in names ts
-  | false ↦ rises_with t (in_order names ts) (rises_in names ts)
-]
+-- a term that a test keeps, and the terms that are kept
+module _ (names : List (List ℕ)) where
+  stays_are : (ts : List Term) (x : Term) → IsAmong x (staying names ts) → IsAmong x ts × (is_below names x ≡ false)
+  stays_are [] x among = elim among [ ]
+  stays_are (t ∷ ts) x among =
+      elim (is_below names t) as (λ b. is_below names t ≡ b → IsAmong x (if not b then t ∷ staying names ts else staying names ts) → IsAmong x (t ∷ ts) × (is_below names x ≡ false)) [
+        | true ↦ λ e a. let old = stays_are ts x a in (there old.0, old.1)
+        | false ↦ λ e a. elim (split_among x t (staying names ts) a) [
+          | inl same ↦ (subst (λ v. IsAmong v (t ∷ ts)) (sym same) here, ap (is_below names) same ∙ e)
+          | inr more ↦ let old = stays_are ts x more in (there old.0, old.1)
+        ]
+      ] refl among
 
-in_are : (names : List (List ℕ)) (ts : List Term) (x : Term) → IsAmong x (in_order names ts) → IsAmong x ts × (is_below names x ≡ false)
-in_are names [] x among = elim among [ ]
-in_are names (t ∷ ts) x among =
-    elim (is_below names t) as (λ b. is_below names t ≡ b → IsAmong x (if b then in_order names ts else with_term t (in_order names ts)) → IsAmong x (t ∷ ts) × (is_below names x ≡ false)) [
-      | true ↦ λ e a. let old = in_are names ts x a in (there old.0, old.1)
-      | false ↦ λ e a. elim (among_with x t (in_order names ts) a) [
-        | inl same ↦ (subst (λ v. IsAmong v (t ∷ ts)) (sym same) here, ap (is_below names) same ∙ e)
-        | inr more ↦ let old = in_are names ts x more in (there old.0, old.1)
-      ]
-    ] refl among
+  are_stays : (ts : List Term) (x : Term) → IsAmong x ts → is_below names x ≡ false → IsAmong x (staying names ts)
+  are_stays [] x among stays = elim among [ ]
+  are_stays (t ∷ ts) x among stays =
+      elim (is_below names t) as (λ b. is_below names t ≡ b → IsAmong x (if not b then t ∷ staying names ts else staying names ts)) [
+        | true ↦ λ e. elim (split_among x t ts among) [
+          | inl same ↦ absurd (true≢false (sym e ∙ ap (is_below names) (sym same) ∙ stays))
+          | inr more ↦ are_stays ts x more stays
+        ]
+        | false ↦ λ e. elim (split_among x t ts among) [
+          | inl same ↦ subst (λ v. IsAmong v (t ∷ staying names ts)) (sym same) here
+          | inr more ↦ there (are_stays ts x more stays)
+        ]
+      ] refl
 
-are_in : (names : List (List ℕ)) (ts : List Term) (x : Term) → IsAmong x ts → is_below names x ≡ false → IsAmong x (in_order names ts)
-are_in names [] x among stays = elim among [ ]
-are_in names (t ∷ ts) x among stays =
-    elim (is_below names t) as (λ b. is_below names t ≡ b → IsAmong x (if b then in_order names ts else with_term t (in_order names ts))) [
-      | true ↦ λ e. elim (split_among x t ts among) [
-        | inl same ↦ absurd (true≢false (sym e ∙ ap (is_below names) (sym same) ∙ stays))
-        | inr more ↦ are_in names ts x more stays
-      ]
-      | false ↦ λ e. elim (split_among x t ts among) [
-        | inl same ↦ subst (λ v. IsAmong v (with_term t (in_order names ts))) (sym same) (with_has t (in_order names ts))
-        | inr more ↦ with_keeps x t (in_order names ts) (are_in names ts x more stays)
-      ]
-    ] refl
-
-pub in_order_members : (names : List (List ℕ)) (ts : List Term) → Tells names ts → AreMembersOf ts (in_order names ts)
-in_order_members names ts tells = record {
-  rises = rises_in names ts;
-  stay = λ t among. let kept = in_are names ts t among in record { among = kept.0; stays = sym (below_absorbed names ts tells t) ∙ kept.1 };
-  all = λ t kept. are_in names ts t kept.among (below_absorbed names ts tells t ∙ kept.stays);
+pub in_order_members : (names : List (List ℕ)) (ts members : List Term) → Tells names ts → AreInOrder (staying names ts) members → AreMembersOf ts members
+in_order_members names ts members tells order = record {
+  rises = order.rises;
+  stay = λ t among. let kept = stays_are names ts t (order.from t among) in record { among = kept.0; stays = sym (below_absorbed names ts tells t) ∙ kept.1 };
+  all = λ t kept. order.all t (are_stays names ts t kept.among (below_absorbed names ts tells t ∙ kept.stays));
 }
 
 pub united_members : (ts ms : List Term) → has_any ts ≡ false → AreMembersOf ts ms → IsUnionOf ts (united ms)

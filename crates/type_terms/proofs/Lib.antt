@@ -1,9 +1,10 @@
 pub mod TextLemmas
 pub mod CodeLemmas
+pub mod SameLemmas
 pub mod ChainLemmas
 pub mod OrderLemmas
+pub mod SortLemmas
 pub mod AbsorbLemmas
-pub mod PlaceLemmas
 pub mod ViewLemmas
 pub mod PartLemmas
 pub mod NormalLemmas

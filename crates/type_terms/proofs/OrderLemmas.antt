@@ -12,7 +12,6 @@ use Rattle.type_terms.specs.Texts.{text}
 use Rattle.type_terms.specs.Codes.{code}
 use Rattle.type_terms.specs.Order.{rank, term_cmp, IsBefore}
 use Rattle.type_terms.specs.Normal.{IsAmong, here, there, IsBeforeAll, Rises}
-use Rattle.type_terms.specs.Ordered.{place_term, with_term}
 use Rattle.type_terms.proofs.CodeLemmas.{same_code}
 
 pub term_total : IsTotalOrder term_cmp
@@ -47,69 +46,12 @@ before_after a b e = term_total.antisymm b a ∙ ap ordering_reverse e
 pub never_before_itself : (a : Term) → IsBefore a a → ⊥
 never_before_itself a e = less_not_equal (sym e ∙ tied_itself term_total a)
 
-before_more : (t u : Term) (us : List Term) → IsBefore t u → IsBeforeAll u us → IsBeforeAll t us
-before_more t u [] first all = tt
-before_more t u (v ∷ vs) first all = (term_total.trans t u v first all.0, before_more t u vs first all.1)
-
--- ---- a term that is put in its place
-
-before_with : (u t : Term) (us : List Term) → IsBefore u t → IsBeforeAll u us → IsBeforeAll u (with_term t us)
-before_with u t [] first all = (first, tt)
-before_with u t (v ∷ vs) first all =
-    elim (term_cmp v t) as (λ o. IsBeforeAll u (place_term o t v vs (with_term t vs))) [
-      | Less ↦ (all.0, before_with u t vs first all.1)
-      | Equal ↦ all
-      | Greater ↦ (first, all)
-    ]
-
-pub rises_with : (t : Term) (us : List Term) → Rises us → Rises (with_term t us)
-rises_with t [] rises = (tt, tt)
-rises_with t (u ∷ us) rises =
-    elim (term_cmp u t) as (λ o. term_cmp u t ≡ o → Rises (place_term o t u us (with_term t us))) [
-      | Less ↦ λ e. (before_with u t us e rises.0, rises_with t us rises.1)
-      | Equal ↦ λ e. rises
-      | Greater ↦ λ e. let first = before_after u t e in ((first, before_more t u us first rises.0), rises)
-    ] refl
-
 pub split_among : (x u : Term) (us : List Term) → IsAmong x (u ∷ us) → (x ≡ u) ⊎ IsAmong x us
 split_among x u us here = inl refl
 split_among x u us (there more) = inr more
 
 pub none_among : (x : Term) → IsAmong x [] → ⊥
 none_among x among = elim among [ ]
-
-pub among_with : (x t : Term) (us : List Term) → IsAmong x (with_term t us) → (x ≡ t) ⊎ IsAmong x us
-among_with x t [] among = split_among x t [] among
-among_with x t (u ∷ us) among =
-    elim (term_cmp u t) as (λ o. IsAmong x (place_term o t u us (with_term t us)) → (x ≡ t) ⊎ IsAmong x (u ∷ us)) [
-      | Less ↦ λ a. elim (split_among x u (with_term t us) a) [
-        | inl first ↦ inr (subst (λ v. IsAmong v (u ∷ us)) (sym first) here)
-        | inr more ↦ elim (among_with x t us more) [ inl same ↦ inl same | inr old ↦ inr (there old) ]
-      ]
-      | Equal ↦ λ a. inr a
-      | Greater ↦ λ a. split_among x t (u ∷ us) a
-    ] among
-
-pub with_has : (t : Term) (us : List Term) → IsAmong t (with_term t us)
-with_has t [] = here
-with_has t (u ∷ us) =
-    elim (term_cmp u t) as (λ o. term_cmp u t ≡ o → IsAmong t (place_term o t u us (with_term t us))) [
-      | Less ↦ λ e. there (with_has t us)
-      | Equal ↦ λ e. subst (λ v. IsAmong v (u ∷ us)) (same_term u t e) here
-      | Greater ↦ λ e. here
-    ] refl
-
-pub with_keeps : (x t : Term) (us : List Term) → IsAmong x us → IsAmong x (with_term t us)
-with_keeps x t [] among = elim among [ ]
-with_keeps x t (u ∷ us) among =
-    elim (term_cmp u t) as (λ o. IsAmong x (place_term o t u us (with_term t us))) [
-      | Less ↦ elim (split_among x u us among) [
-        | inl first ↦ subst (λ v. IsAmong v (u ∷ with_term t us)) (sym first) here
-        | inr more ↦ there (with_keeps x t us more)
-      ]
-      | Equal ↦ among
-      | Greater ↦ there among
-    ]
 
 -- ---- two lists in order with the same terms
 

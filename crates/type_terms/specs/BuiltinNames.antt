@@ -1,24 +1,22 @@
 -- The names that Python's builtin module and the module `typing` have here (library reference, "Built-in Functions"; PEP 484).
-use Rattle.std.specs.Prelude.{ℕ, Bool, List, [], ◌∷◌, ◌++◌, ◌||◌, codes}
+use Rattle.std.specs.Prelude.{ℕ, Bool, List, [], ◌∷◌, ◌++◌, ◌||◌, codes, map}
 use Rattle.std.specs.List.{list_any}
 use Rattle.std.specs.Str.{bytes_eq}
+use Rattle.type_terms.specs.declared.names.TheConstants.{BUILTIN_FUNCTIONS, BUILTIN_CLASSES, BUILTIN_TEXTS}
 use Rattle.type_terms.specs.Exceptions.{exception_names, is_exception}
 
 abbrev pub has_name : List (List ℕ) → List ℕ → Bool
 has_name names name = list_any (bytes_eq name) names
 
 abbrev pub builtin_functions : List (List ℕ)
-builtin_functions =
-    codes "print" ∷ codes "input" ∷ codes "len" ∷ codes "ord" ∷ codes "repr" ∷ codes "chr" ∷ codes "isinstance" ∷ codes "sorted"
-    ∷ codes "min" ∷ codes "max" ∷ codes "enumerate" ∷ codes "zip" ∷ []
+builtin_functions = map (λ name. name.now) BUILTIN_FUNCTIONS
 
 -- the classes without the exceptions
 abbrev pub builtin_classes : List (List ℕ)
-builtin_classes =
-    codes "list" ∷ codes "tuple" ∷ codes "dict" ∷ codes "str" ∷ codes "int" ∷ codes "float" ∷ codes "bytes" ∷ codes "bool" ∷ codes "range" ∷ codes "object" ∷ []
+builtin_classes = map (λ name. name.now) BUILTIN_CLASSES
 
 abbrev pub builtin_texts : List (List ℕ)
-builtin_texts = codes "__name__" ∷ codes "__file__" ∷ []
+builtin_texts = map (λ name. name.now) BUILTIN_TEXTS
 
 abbrev pub typing_names : List (List ℕ)
 typing_names =

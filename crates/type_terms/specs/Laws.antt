@@ -1,5 +1,6 @@
--- What holds of the normal forms of all types.
+-- What holds of the normal forms and the codes of all types.
 use Rattle.std.specs.Prelude.{◌≡◌, ◌↔◌}
+use Rattle.type_terms.specs.Codes.{code}
 use Rattle.type_terms.specs.Terms.{Term, Terms, union, list_of}
 use Rattle.type_terms.specs.Normal.{IsAmong, IsNormalOf, IsNormal}
 
@@ -15,3 +16,7 @@ NormalFormsAreNormal = (t n : Term) → IsNormalOf t n → IsNormal n
 abbrev pub SameMembersSameForm : Type 0
 SameMembersSameForm =
     (ts us : Terms) (n m : Term) → ((t : Term) → IsAmong t (list_of ts) ↔ IsAmong t (list_of us)) → IsNormalOf (union ts) n → IsNormalOf (union us) m → n ≡ m
+
+-- two types of one code are one type
+abbrev pub OneTypeACode : Type 0
+OneTypeACode = (t u : Term) → code t ≡ code u → t ≡ u

@@ -2,6 +2,7 @@ pub mod Terms
 pub mod View
 pub mod Texts
 pub mod Codes
+pub mod Same
 pub mod Exceptions
 pub mod Order
 pub mod Normal

@@ -1,15 +1,13 @@
--- Terms that are put in order one at a time.
-use Rattle.std.specs.Prelude.{◌≡◌, ℕ, Bool, true, false, slice_get, Option, Some, None, List, [], ◌∷◌, map, if◌then◌else◌}
+-- The members of a union: what order they stand in, and the same as a function that puts them in order one at a time.
+use Rattle.std.specs.Prelude.{◌≡◌, ℕ, Bool, true, false, not, Option, Some, None, List, [], ◌∷◌, map, filter, if◌then◌else◌}
 use Rattle.std.specs.List.{list_any}
 use Rattle.std.specs.Str.{bytes_eq}
-use Rattle.std.specs.Ordering.{is_lt, is_eq}
 use Rattle.std.specs.declared.cmp.Ordering.{Ordering}
 use Rattle.std.specs.declared.cmp.Ordering.TheVariants.{Less, Equal, Greater}
 use Rattle.type_terms.specs.declared.member.Member.{Member}
-use Rattle.type_terms.specs.declared.key.Key.{Key}
 use Rattle.type_terms.specs.Exceptions.{exception_chain, is_exception}
-use Rattle.type_terms.specs.Normal.{has_class, above}
-use Rattle.type_terms.specs.Order.{key_cmp, term_cmp}
+use Rattle.type_terms.specs.Normal.{IsAmong, Rises, has_class, above}
+use Rattle.type_terms.specs.Order.{term_cmp}
 use Rattle.type_terms.specs.Terms.{Term, any, class, union, terms_of}
 use Rattle.type_terms.specs.View.{term_view}
 
@@ -28,18 +26,6 @@ member_term member = term_view member.term
 
 abbrev pub member_terms : List Member → List Term
 member_terms members = map member_term members
-
--- whether a member stands before a key
-abbrev pub follows : Key → Member → Bool
-follows key member = is_lt (key_cmp member.key key)
-
--- whether the member at a place has a key
-abbrev pub has_key : Key → Option Member → Bool
-has_key key None = false
-has_key key (Some member) = is_eq (key_cmp member.key key)
-
-abbrev pub is_at : List Member → ℕ → Key → Bool
-is_at members place key = has_key key (slice_get members place)
 
 -- one member stands alone, and none are `Any`
 abbrev pub united : List Term → Term
@@ -60,6 +46,16 @@ pub record Tells (names : List (List ℕ)) (ts : List Term) : Type 0 where
 abbrev pub is_below : List (List ℕ) → Term → Bool
 is_below names (class name) = list_any (λ up. list_any (bytes_eq up) names) (above (exception_chain name))
 is_below names _ = false
+
+-- the terms that are not below one of the names
+abbrev pub staying : List (List ℕ) → List Term → List Term
+staying names ts = filter (λ t. not (is_below names t)) ts
+
+-- terms in order: those of a list, each once
+pub record AreInOrder (ts members : List Term) : Type 0 where
+  pub rises : Rises members
+  pub from : (t : Term) → IsAmong t members → IsAmong t ts
+  pub all : (t : Term) → IsAmong t ts → IsAmong t members
 
 -- the terms that are not below one of the names, put in order from the last on
 abbrev pub in_order : List (List ℕ) → List Term → List Term

@@ -24,10 +24,12 @@ mutual
     -- a callable of any arguments, with the type of what it returns
     callable : Term → Term
     union : Terms → Term
+    deriving Discrete as term-discrete
 
   pub data Terms : Type 0 where
     no_terms : Terms
     term : Term → Terms → Terms
+    deriving Discrete as terms-discrete
 
 abbrev pub terms_of : List Term → Terms
 terms_of [] = no_terms

@@ -7,8 +7,8 @@ use crate::TypeTerm;
 use place_ids::Text;
 use std::alloc::{AllocError, Global};
 
-/// The code of a type.
-pub(crate) fn term_code(alloc: Global, term: &TypeTerm) -> Result<Text, AllocError>
+/// The code of a type, by which maps may keep it.
+pub fn term_code(alloc: Global, term: &TypeTerm) -> Result<Text, AllocError>
     ensures { IfOk result (λ written. written ≡ code (term_view term.now)) }
 {
     let mut out = Text::new(alloc);

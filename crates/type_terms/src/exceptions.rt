@@ -1,7 +1,7 @@
 //! The builtin exception classes.
 ghost use Rattle.std.specs.Prelude.{◌≡◌, map};
 ghost use Rattle.std.specs.Str.{bytes_eq};
-ghost use Rattle.type_terms.specs.Exceptions.{exception_chain, first_chain, heads};
+ghost use Rattle.type_terms.specs.Exceptions.{exception_chain, exception_names, first_chain, heads};
 
 // Each class with the classes above it, from the nearest on.
 static CHAINS: [&[&str]; 34] = [
@@ -88,6 +88,13 @@ pub fn exception_chain(name: &str) -> &'static [&'static str]
     ensures { map (λ class. class.now) result.now ≡ exception_chain name.now }
 {
     chain_of(name.as_bytes())
+}
+
+/// The chain of each builtin exception class. So a class is its place in this list, and the first of its chain is its name.
+pub fn exception_chains() -> &'static [&'static [&'static str]]
+    ensures { map (λ chain. map (λ class. class.now) chain.now) result.now ≡ map exception_chain exception_names }
+{
+    &CHAINS
 }
 
 /// The same, of a name's bytes.

@@ -3,14 +3,17 @@
 
 mod absorbed;
 mod code;
+mod copied;
 mod exceptions;
 mod given;
 mod key;
 pub mod laws;
 mod member;
+mod names;
 mod normal_form;
 mod ordered;
 mod parts;
+mod same;
 mod stub;
 mod stub_set;
 mod term;
@@ -18,7 +21,9 @@ mod term;
 mod tests;
 mod text;
 
-pub use exceptions::exception_chain;
+pub use code::term_code;
+pub use exceptions::{exception_chain, exception_chains};
+pub use names::{BUILTIN_CLASSES, BUILTIN_FUNCTIONS, BUILTIN_TEXTS};
 pub use normal_form::normal;
 pub use stub::{Stub, StubClass, StubFun, StubName, StubParam};
 pub use stub_set::StubSet;

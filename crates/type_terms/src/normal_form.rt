@@ -7,10 +7,10 @@ ghost use Rattle.type_terms.specs.View.{term_view, terms_view};
 
 use crate::TypeTerm;
 use crate::absorbed::exceptions_among;
+use crate::copied::copy_text;
 use crate::member::Member;
 use crate::ordered::ordered;
 use crate::parts::{all_parts, has_any};
-use place_ids::Text;
 use std::alloc::{AllocError, Global};
 
 /// The normal form of a type. The term that is handed in is dropped.
@@ -39,8 +39,8 @@ fn normal_of(alloc: Global, term: &TypeTerm) -> Result<TypeTerm, AllocError>
         )),
         TypeTerm::Tuple(places) => Ok(TypeTerm::Tuple(normal_terms(alloc, places)?)),
         TypeTerm::TupleOf(item) => Ok(TypeTerm::TupleOf(normal_box(alloc, item)?)),
-        TypeTerm::Class(name) => Ok(TypeTerm::Class(copy(alloc, name)?)),
-        TypeTerm::ClassOf(name) => Ok(TypeTerm::ClassOf(copy(alloc, name)?)),
+        TypeTerm::Class(name) => Ok(TypeTerm::Class(copy_text(alloc, name.bytes())?)),
+        TypeTerm::ClassOf(name) => Ok(TypeTerm::ClassOf(copy_text(alloc, name.bytes())?)),
         TypeTerm::Callable(answer) => Ok(TypeTerm::Callable(normal_box(alloc, answer)?)),
         TypeTerm::Union(members) => union_of(alloc, normal_terms(alloc, members)?),
     }
@@ -62,14 +62,6 @@ fn normal_terms(alloc: Global, terms: &[TypeTerm]) -> Result<Vec<TypeTerm>, Allo
     for term in terms {
         made.push(normal_of(alloc, term)?)?;
     }
-    Ok(made)
-}
-
-fn copy(alloc: Global, text: &Text) -> Result<Text, AllocError>
-    ensures { IfOk result (λ made. made ≡ text.now) }
-{
-    let mut made = Text::new(alloc);
-    made.push(text.bytes())?;
     Ok(made)
 }
 

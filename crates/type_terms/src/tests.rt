@@ -144,6 +144,28 @@ fn chains_go_up_to_the_top(rt: HostRuntime) {
         ["BaseException"].as_slice()
     );
     assert_eq!(rt; exception_chain("object").len(), 0);
+    assert_eq!(rt; exception_chains().len(), 34);
+}
+
+#[test]
+fn a_type_is_told_from_others(rt: HostRuntime) -> Result<(), Fail> {
+    let alloc = rt.alloc();
+    let optional = union(alloc, TypeTerm::Int, TypeTerm::NoneTerm)?;
+    let term = list(alloc, optional)?;
+    let other = term.copy(alloc)?;
+    assert!(rt; term.same(&other));
+    assert!(rt; !term.same(&TypeTerm::Int));
+    assert!(rt; !class(alloc, "int")?.same(&TypeTerm::Int));
+    assert_eq!(rt;
+        term_text(alloc, &other)?.bytes(),
+        b"List[Optional[int]]".as_slice()
+    );
+    // A mark for the list, one for the union, each member behind a 1, and the end.
+    assert_eq!(rt;
+        term_code(alloc, &other)?.bytes(),
+        [7, 14, 1, 3, 1, 1, 0].as_slice()
+    );
+    Ok(())
 }
 
 // A stub that declares `x: int`.

@@ -8,6 +8,6 @@ use Rattle.block_compile.proofs.functions.module_code.Goals as goal
 pub finished-requires : goal.finished-requires
 finished-requires c =
     subst IsValid
-    (sym (module_is c.args.error (stmts_view c.args.body.now) c.args.scopes.now c.outermost-at.result c.last_line.result c.new-buffer.result c.push_body.new.buffer c.push.new.self
-    c.outermost-at.ensures c.new-buffer.ensures c.in_ok-push_body.ensures c.last_line.ensures c.in_ok-push.ensures))
+    (sym (module_is c.args.error (stmts_view c.args.body.now) c.of_module-names.result c.outermost-at.result c.last_line.result c.new-buffer.result c.push_body.new.buffer c.push.new.self
+    c.of_module-names.ensures c.outermost-at.ensures c.new-buffer.ensures c.in_ok-push_body.ensures c.last_line.ensures c.in_ok-push.ensures))
     (module_valid c.args.error (stmts_view c.args.body.now))

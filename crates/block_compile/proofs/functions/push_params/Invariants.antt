@@ -2,7 +2,7 @@ use Rattle.std.proofs.Common.{◌≡◌, drop, map}
 use Rattle.py_tree.specs.View.{param_view}
 use Rattle.tree_code.specs.Pieces.{Labels}
 use Rattle.tree_code.specs.Programs.{params_code}
-use Rattle.simple_code.specs.Emitted.{with_piece}
+use Rattle.expr_compile.specs.Emitted.{with_piece}
 use Rattle.block_compile.proofs.functions.push_params.Given as goal
 
 abbrev pub invariant-loop-number : goal.invariant-loop-number

@@ -3,7 +3,7 @@ use Rattle.std.proofs.lemmas.Result.{on_ok_weaker}
 use Rattle.py_tree.specs.declared.definition.ClassDef.{out-ClassDef}
 use Rattle.py_tree.specs.View.{members_view}
 use Rattle.tree_code.specs.Statements.{member_values}
-use Rattle.simple_code.specs.Growth.{Grows}
+use Rattle.expr_compile.specs.Growth.{Grows}
 use Rattle.block_compile.proofs.Simple.{class_done}
 use Rattle.block_compile.proofs.plain.push_class.Goals as goal
 

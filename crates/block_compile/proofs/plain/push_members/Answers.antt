@@ -1,6 +1,6 @@
 use Rattle.py_tree.specs.View.{members_view}
 use Rattle.tree_code.specs.Statements.{member_values}
-use Rattle.simple_code.specs.Emitted.{with_piece}
+use Rattle.expr_compile.specs.Emitted.{with_piece}
 use Rattle.block_compile.proofs.Bodies.{members_step}
 use Rattle.block_compile.proofs.plain.push_members.Goals as goal
 

@@ -2,7 +2,7 @@ use Rattle.std.proofs.Common.{◌≡◌, drop}
 use Rattle.py_tree.specs.View.{members_view}
 use Rattle.tree_code.specs.Pieces.{Labels}
 use Rattle.tree_code.specs.Statements.{member_values}
-use Rattle.simple_code.specs.Emitted.{with_piece}
+use Rattle.expr_compile.specs.Emitted.{with_piece}
 use Rattle.block_compile.proofs.plain.push_members.Given as goal
 
 abbrev pub invariant-loop-member : goal.invariant-loop-member

@@ -1,5 +1,5 @@
 use Rattle.std.proofs.Common.{◌<◌, ◌≤◌, length, ◌∙◌, arith}
-use Rattle.py_tree.specs.Nesting.{depth}
+use Rattle.py_grammar.specs.Nesting.{depth}
 use Rattle.py_parse.proofs.Depths.{nested_step, nested_stop}
 use Rattle.py_parse.proofs.nesting.first_too_deep.Goals as goal
 

@@ -2,7 +2,7 @@ use Rattle.std.proofs.Common.{◌≡◌, ◌∙◌, ◌&&◌, ap}
 use Rattle.scope_rules.specs.declared.fault.Rule.TheVariants as rule
 use Rattle.scope_rules.specs.Roles.{binds, is_name}
 use Rattle.scope_rules.specs.Rules.{reads_member}
-use Rattle.py_scope.proofs.MentionLemmas.{has_named, faults_at_step}
+use Rattle.scope_rules.proofs.MentionLemmas.{has_named, faults_at_step}
 use Rattle.py_scope.proofs.class_rules.member_reads.Goals as goal
 
 pub loop-m-preserved : goal.loop-m-preserved

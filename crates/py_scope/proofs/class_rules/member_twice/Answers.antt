@@ -4,7 +4,7 @@ use Rattle.scope_rules.specs.NameLists.{with_name_if}
 use Rattle.scope_rules.specs.Named.{mentioned}
 use Rattle.scope_rules.specs.Roles.{binds}
 use Rattle.scope_rules.specs.Rules.{binds_again}
-use Rattle.py_scope.proofs.MentionLemmas.{named_step, has_named, faults_step}
+use Rattle.scope_rules.proofs.MentionLemmas.{named_step, has_named, faults_step}
 use Rattle.py_scope.proofs.class_rules.member_twice.Goals as goal
 
 pub loop-m-preserved : goal.loop-m-preserved

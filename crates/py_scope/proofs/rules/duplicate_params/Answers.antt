@@ -4,7 +4,7 @@ use Rattle.scope_rules.specs.NameLists.{with_name_if}
 use Rattle.scope_rules.specs.Named.{mentioned}
 use Rattle.scope_rules.specs.Roles.{is_parameter}
 use Rattle.scope_rules.specs.Rules.{repeats_parameter}
-use Rattle.py_scope.proofs.MentionLemmas.{named_step, has_named, faults_step}
+use Rattle.scope_rules.proofs.MentionLemmas.{named_step, has_named, faults_step}
 use Rattle.py_scope.proofs.rules.duplicate_params.Goals as goal
 
 pub loop-m-preserved : goal.loop-m-preserved

@@ -4,7 +4,7 @@ use Rattle.scope_rules.specs.NameLists.{has_name, with_name_if}
 use Rattle.scope_rules.specs.Named.{mentioned}
 use Rattle.scope_rules.specs.Roles.{binds, is_definition}
 use Rattle.scope_rules.specs.Rules.{rebinds}
-use Rattle.py_scope.proofs.MentionLemmas.{named_step, has_named, faults_step}
+use Rattle.scope_rules.proofs.MentionLemmas.{named_step, has_named, faults_step}
 use Rattle.py_scope.proofs.rules.rebound.Goals as goal
 
 pub loop-m-preserved : goal.loop-m-preserved

@@ -1,6 +1,6 @@
-use Rattle.std.proofs.Common.{◌≡◌, ◌+◌, ◌-◌, ◌^◌, ◌<◌, Ok, length, slice_get, Some, sym, ap, ◌∙◌, subst, arith}
+use Rattle.std.proofs.Common.{◌≡◌, ◌+◌, ◌-◌, ◌^◌, ◌<◌, Ok, Err, length, slice_get, Some, sym, ap, ◌∙◌, subst, arith}
 use Rattle.std.proofs.lemmas.Result.{err_from_is_err_and}
-use Rattle.stack_code.specs.Search.{AreDepths, with_depth, ways}
+use Rattle.stack_code.specs.Search.{AreDepths, with_depth, with_depths, handlers, ways}
 use Rattle.stack_code.proofs.Lists.{blanks}
 use Rattle.stack_code.proofs.FirstBreaks.{op_stands}
 use Rattle.stack_code.proofs.Searching.{IsTaken, search_begins, taken_within, taken_low, op_given, op_differs, ranges_differ, search_goes_on, search_ends}
@@ -12,7 +12,7 @@ loop-reached-init c = search_begins c.args.code.now c.requires.short c.len.resul
 pub bounds-as_slice-reached : goal.bounds-as_slice-reached
 bounds-as_slice-reached c =
     let taken : IsTaken c.args.code.now c.loop-reached.search c.next.new.self c.in-Some.reached = record { depths = c.in-Some.ensures.0; waiting = c.in-Some.ensures.1 } in
-    omega (arith, taken_within c.args.code.now c.loop-reached.search c.next.new.self c.in-Some.reached taken c.loop-reached.invariant, ap length c.as_slice.ensures)
+    omega (arith, taken_within c.args.code.now c.loop-reached.search c.next.new.self c.in-Some.reached taken c.loop-reached.invariant, ap length c.as_slice-in-Some.ensures)
 
 pub follow_op-requires-clause-place : goal.follow_op-requires-clause-place
 follow_op-requires-clause-place c =
@@ -30,33 +30,33 @@ returns-in_err-follow_op-clause-differs c = λ place e.
     let p = err_from_is_err_and c.from_residual-in_err-follow_op.result c.from_residual-in_err-follow_op.ensures.1 in
     let taken : IsTaken c.args.code.now c.loop-reached.search c.next.new.self c.in-Some.reached = record { depths = c.in-Some.ensures.0; waiting = c.in-Some.ensures.1 } in
     op_differs c.args.code.now c.loop-reached.search c.next.new.self c.in-Some.reached c.index-as_slice-reached.result taken c.loop-reached.invariant
-    (op_stands c.args.code.now c.as_slice.result.now c.in-Some.reached.place c.index-as_slice-reached.result c.as_slice.ensures (taken_within c.args.code.now c.loop-reached.search c.next.new.self c.in-Some.reached taken c.loop-reached.invariant) c.index-as_slice-reached.is)
+    (op_stands c.args.code.now c.as_slice-in-Some.result.now c.in-Some.reached.place c.index-as_slice-reached.result c.as_slice-in-Some.ensures (taken_within c.args.code.now c.loop-reached.search c.next.new.self c.in-Some.reached taken c.loop-reached.invariant) c.index-as_slice-reached.is)
     place (c.in_err-follow_op.ensures.differs place (cc))
 
 pub loop-reached-smaller : goal.loop-reached-smaller
 loop-reached-smaller c =
     let taken : IsTaken c.args.code.now c.loop-reached.search c.next.new.self c.in-Some.reached = record { depths = c.in-Some.ensures.0; waiting = c.in-Some.ensures.1 } in
-    let stands : slice_get c.args.code.now.ops c.in-Some.reached.place ≡ Some c.index-as_slice-reached.result = op_stands c.args.code.now c.as_slice.result.now c.in-Some.reached.place c.index-as_slice-reached.result c.as_slice.ensures (taken_within c.args.code.now c.loop-reached.search c.next.new.self c.in-Some.reached taken c.loop-reached.invariant) c.index-as_slice-reached.is in
+    let stands : slice_get c.args.code.now.ops c.in-Some.reached.place ≡ Some c.index-as_slice-reached.result = op_stands c.args.code.now c.as_slice-in-Some.result.now c.in-Some.reached.place c.index-as_slice-reached.result c.as_slice-in-Some.ensures (taken_within c.args.code.now c.loop-reached.search c.next.new.self c.in-Some.reached taken c.loop-reached.invariant) c.index-as_slice-reached.is in
     (search_goes_on c.args.code.now c.loop-reached.search c.next.new.self c.follow_op.new.self c.follow_ranges.new.self c.in-Some.reached c.index-as_slice-reached.result taken c.loop-reached.invariant stands
     (op_given c.args.code.now c.loop-reached.search c.next.new.self c.follow_op.new.self c.in-Some.reached c.index-as_slice-reached.result taken c.loop-reached.invariant stands c.in_ok-follow_op.ensures.given)
-    c.requires.low (rw (← c.as_slice-in-Some.ensures) c.in_ok-follow_ranges.ensures.given)).1
+    c.requires.low (subst (λ rs. with_depths (handlers rs c.in-Some.reached.place) c.follow_op.new.self ≡ Ok c.follow_ranges.new.self) (c.in_ok-tree.ensures.same ∙ c.as_slice.ensures) c.in_ok-follow_ranges.ensures.given)).1
 
 pub loop-reached-preserved : goal.loop-reached-preserved
 loop-reached-preserved c =
     let taken : IsTaken c.args.code.now c.loop-reached.search c.next.new.self c.in-Some.reached = record { depths = c.in-Some.ensures.0; waiting = c.in-Some.ensures.1 } in
-    let stands : slice_get c.args.code.now.ops c.in-Some.reached.place ≡ Some c.index-as_slice-reached.result = op_stands c.args.code.now c.as_slice.result.now c.in-Some.reached.place c.index-as_slice-reached.result c.as_slice.ensures (taken_within c.args.code.now c.loop-reached.search c.next.new.self c.in-Some.reached taken c.loop-reached.invariant) c.index-as_slice-reached.is in
+    let stands : slice_get c.args.code.now.ops c.in-Some.reached.place ≡ Some c.index-as_slice-reached.result = op_stands c.args.code.now c.as_slice-in-Some.result.now c.in-Some.reached.place c.index-as_slice-reached.result c.as_slice-in-Some.ensures (taken_within c.args.code.now c.loop-reached.search c.next.new.self c.in-Some.reached taken c.loop-reached.invariant) c.index-as_slice-reached.is in
     (search_goes_on c.args.code.now c.loop-reached.search c.next.new.self c.follow_op.new.self c.follow_ranges.new.self c.in-Some.reached c.index-as_slice-reached.result taken c.loop-reached.invariant stands
     (op_given c.args.code.now c.loop-reached.search c.next.new.self c.follow_op.new.self c.in-Some.reached c.index-as_slice-reached.result taken c.loop-reached.invariant stands c.in_ok-follow_op.ensures.given)
-    c.requires.low (rw (← c.as_slice-in-Some.ensures) c.in_ok-follow_ranges.ensures.given)).0
+    c.requires.low (subst (λ rs. with_depths (handlers rs c.in-Some.reached.place) c.follow_op.new.self ≡ Ok c.follow_ranges.new.self) (c.in_ok-tree.ensures.same ∙ c.as_slice.ensures) c.in_ok-follow_ranges.ensures.given)).0
 
 pub returns-in_err-follow_ranges-clause-differs : goal.returns-in_err-follow_ranges-clause-differs
 returns-in_err-follow_ranges-clause-differs c = λ place e.
     let p = err_from_is_err_and c.from_residual-in_err-follow_ranges.result c.from_residual-in_err-follow_ranges.ensures.1 in
     let taken : IsTaken c.args.code.now c.loop-reached.search c.next.new.self c.in-Some.reached = record { depths = c.in-Some.ensures.0; waiting = c.in-Some.ensures.1 } in
-    let stands : slice_get c.args.code.now.ops c.in-Some.reached.place ≡ Some c.index-as_slice-reached.result = op_stands c.args.code.now c.as_slice.result.now c.in-Some.reached.place c.index-as_slice-reached.result c.as_slice.ensures (taken_within c.args.code.now c.loop-reached.search c.next.new.self c.in-Some.reached taken c.loop-reached.invariant) c.index-as_slice-reached.is in
+    let stands : slice_get c.args.code.now.ops c.in-Some.reached.place ≡ Some c.index-as_slice-reached.result = op_stands c.args.code.now c.as_slice-in-Some.result.now c.in-Some.reached.place c.index-as_slice-reached.result c.as_slice-in-Some.ensures (taken_within c.args.code.now c.loop-reached.search c.next.new.self c.in-Some.reached taken c.loop-reached.invariant) c.index-as_slice-reached.is in
     ranges_differ c.args.code.now c.loop-reached.search c.next.new.self c.follow_op.new.self c.in-Some.reached (ways c.index-as_slice-reached.result c.in-Some.reached.place c.in-Some.reached.depth) taken c.loop-reached.invariant
     (op_given c.args.code.now c.loop-reached.search c.next.new.self c.follow_op.new.self c.in-Some.reached c.index-as_slice-reached.result taken c.loop-reached.invariant stands c.in_ok-follow_op.ensures.given)
-    c.requires.low place (rw (← c.as_slice-in-Some.ensures) (c.in_err-follow_ranges.ensures.differs place (cc)))
+    c.requires.low place (subst (λ rs. with_depths (handlers rs c.in-Some.reached.place) c.follow_op.new.self ≡ Err place) (c.in_ok-tree.ensures.same ∙ c.as_slice.ensures) (c.in_err-follow_ranges.ensures.differs place (cc)))
 
 pub returns-clause-depths : goal.returns-clause-depths
 returns-clause-depths c =

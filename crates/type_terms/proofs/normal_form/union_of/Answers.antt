@@ -1,7 +1,7 @@
 use Rattle.std.proofs.Common.{◌≡◌, map, false, sym, ap, ◌∙◌, subst}
 use Rattle.std.proofs.lemmas.Result.{IfOk-weaker}
 use Rattle.type_terms.specs.Normal.{IsUnionOf, takes_all, has_any, parts_of}
-use Rattle.type_terms.specs.Ordered.{Tells, united, in_order}
+use Rattle.type_terms.specs.Ordered.{AreInOrder, Tells, member_terms, staying}
 use Rattle.type_terms.specs.View.{term_view, terms_view}
 use Rattle.type_terms.proofs.AbsorbLemmas.{in_order_members, united_members}
 use Rattle.type_terms.proofs.ViewLemmas.{view_any}
@@ -17,6 +17,7 @@ returns c =
     let all = map term_view c.in_ok-parts.parts.items in
     let absent : has_any all ≡ false = ap (λ ts. has_any (map term_view ts)) (sym c.deref.ensures.value) ∙ sym c.if-has_any.ensures in
     let tells : Tells (map (λ name. name.now) c.in_ok-names.names.items) all = rw (← c.deref-2.ensures.value) c.in_ok-names.ensures in
-    let ordered = c.in_ok-ordered.ensures ∙ ap (λ names. in_order (map (λ name. name.now) names) all) c.deref-3.ensures.value in
-    let union = united_members all _ absent (in_order_members (map (λ name. name.now) c.in_ok-names.names.items) all tells) in
-    IfOk-weaker c.united.result _ _ (λ made same. rw (← c.in_ok-parts.ensures) (subst (IsUnionOf all) (sym (same ∙ ap united ordered)) union)) c.united.ensures
+    let names = map (λ name. name.now) c.in_ok-names.names.items in
+    let order = subst (λ ns. AreInOrder (staying (map (λ name. name.now) ns) all) (member_terms c.in_ok-ordered.field-0.items)) c.deref-3.ensures.value c.in_ok-ordered.ensures in
+    let union = united_members all _ absent (in_order_members names all _ tells order) in
+    IfOk-weaker c.united.result _ _ (λ made same. rw (← c.in_ok-parts.ensures) (subst (IsUnionOf all) (sym same) union)) c.united.ensures

@@ -1,6 +1,6 @@
 use Rattle.std.proofs.Common.{◌∙◌, Some, false, ap, arith}
 use Rattle.py_tokens.specs.declared.token.Keyword.TheVariants as word
-use Rattle.py_tree.specs.Cursor.{past}
+use Rattle.py_grammar.specs.Cursor.{past}
 use Rattle.py_tree.specs.View.{arms_view, expr_view, handlers_view, stmts_view}
 use Rattle.py_descent.specs.Codes.{at, keyword}
 use Rattle.py_descent.specs.Programs.{room}

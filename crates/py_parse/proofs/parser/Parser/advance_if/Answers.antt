@@ -1,5 +1,5 @@
 use Rattle.std.proofs.Common.{ap, arith}
-use Rattle.py_tree.specs.Cursor.{Cursor}
+use Rattle.py_grammar.specs.Cursor.{Cursor}
 use Rattle.py_parse.proofs.Tokens.{place_fits}
 use Rattle.py_parse.proofs.parser.Parser.advance_if.Goals as goal
 

@@ -3,7 +3,7 @@ use Rattle.py_tree.specs.Tree.{StmtKind}
 use Rattle.py_tree.specs.View.{expr_view, exprs_view}
 use Rattle.py_descent.specs.Programs.{gives}
 use Rattle.py_parse.proofs.Assigned.{last_assigned, next_assigned}
-use Rattle.py_parse.proofs.Views.{view_assign}
+use Rattle.py_tree.proofs.StatementViews.{view_assign}
 use Rattle.py_parse.proofs.parser.Parser.assigned.Goals as goal
 
 pub returns-then-not-at_op-clause-gives : goal.returns-then-not-at_op-clause-gives

@@ -1,6 +1,6 @@
 use Rattle.std.proofs.Common.{Bool, ◌&&◌, sym, ap, ◌∙◌}
 use Rattle.py_tokens.specs.declared.token.Op.TheVariants as op
-use Rattle.py_tree.specs.Cursor.{past}
+use Rattle.py_grammar.specs.Cursor.{past}
 use Rattle.py_descent.specs.Codes.{symbol, at}
 use Rattle.py_parse.proofs.Tokens.{at_named_is}
 use Rattle.py_parse.proofs.parser.Parser.at_keyword_argument.Goals as goal

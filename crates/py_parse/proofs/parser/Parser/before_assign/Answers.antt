@@ -2,7 +2,7 @@ use Rattle.std.proofs.Common.{ap, ◌∙◌}
 use Rattle.std.proofs.Common.{Option}
 use Rattle.py_tokens.specs.declared.token.TokenKind.{TokenKind}
 use Rattle.py_tokens.specs.declared.token.Op.TheVariants as op
-use Rattle.py_tree.specs.Cursor.{Cursor}
+use Rattle.py_grammar.specs.Cursor.{Cursor}
 use Rattle.py_descent.specs.Codes.{symbol, is_in}
 use Rattle.py_parse.proofs.Tokens.{at_behind}
 use Rattle.py_parse.proofs.parser.Parser.before_assign.Goals as goal

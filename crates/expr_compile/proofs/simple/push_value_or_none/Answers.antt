@@ -1,0 +1,12 @@
+-- There is a value.
+use Rattle.std.proofs.Common.{OnOk, ℕ, List, sym, subst}
+use Rattle.std.specs.Prelude.{option_map}
+use Rattle.py_tree.specs.View.{expr_view}
+use Rattle.tree_code.specs.Statements.{value_or_none}
+use Rattle.expr_compile.specs.Growth.{Grows}
+use Rattle.expr_compile.proofs.simple.push_value_or_none.Goals as goal
+
+pub returns-in-Some : goal.returns-in-Some
+returns-in-Some c =
+    let locals : List ℕ = c.args.names.now in
+    subst (λ v. OnOk c.push_value.result (Grows (value_or_none locals c.args.line (option_map expr_view v)) c.args.buffer.now c.push_value.new.buffer)) (sym c.in-Some.is) c.push_value.ensures

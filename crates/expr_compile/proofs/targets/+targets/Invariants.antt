@@ -1,0 +1,10 @@
+use Rattle.std.proofs.Common.{◌≡◌, ◌∷◌, [], ◌++◌, drop, map}
+use Rattle.py_tree.specs.View.{expr_view, exprs_view, import_view, from_view}
+use Rattle.tree_code.specs.Pieces.{Labels}
+use Rattle.tree_code.specs.Expressions.{parts, puts}
+use Rattle.tree_code.specs.Statements.{imports, froms, put_all}
+use Rattle.expr_compile.specs.Emitted.{with_piece}
+use Rattle.expr_compile.proofs.targets.+targets.Given as goal
+
+abbrev pub invariant-push_puts-loop-target : goal.invariant-push_puts-loop-target
+invariant-push_puts-loop-target l = (labels : Labels) → with_piece (puts l.names (exprs_view (drop l.target-index l.targets))) labels l.buffer ≡ with_piece (puts l.names (exprs_view l.targets)) labels l.initial.buffer

@@ -1,0 +1,5 @@
+use Rattle.py_meaning.proofs.RowKinds
+use Rattle.py_meaning.proofs.laws.operators_keep_their_rows.Goals as goal
+
+pub returns : goal.returns
+returns c = RowKinds.operators_keep_their_rows

@@ -1,5 +1,0 @@
-pub mod Buffers
-pub mod Pieces
-pub mod Rounds
-pub mod Sizes
-pub mod Views

@@ -1,0 +1,19 @@
+-- Ranges in a tree: which they are, and that each branch says between which places its ranges lie.
+use Rattle.std.specs.Prelude.{ℕ, ◌≤◌, List, [], ◌∷◌, ◌++◌}
+use Rattle.std.specs.List.{All}
+use Rattle.stack_code.specs.declared.code.Range.{Range}
+use Rattle.stack_code.specs.declared.range_tree.RangeTree.{RangeTree, Empty, Leaf, Branch'}
+
+abbrev pub LiesBetween : ℕ → ℕ → Range → Type 0
+LiesBetween first past range = (first ≤ range.first) × (range.past ≤ past)
+
+-- in order
+abbrev pub ranges_of : RangeTree → List Range
+ranges_of Empty = []
+ranges_of (Leaf range) = range ∷ []
+ranges_of (Branch' first past p left q right) = ranges_of left ++ ranges_of right
+
+abbrev pub IsBounded : RangeTree → Type 0
+IsBounded Empty = Unit {0}
+IsBounded (Leaf range) = Unit {0}
+IsBounded (Branch' first past p left q right) = All (LiesBetween first past) (ranges_of left ++ ranges_of right) × IsBounded left × IsBounded right
