@@ -1,0 +1,4 @@
+opens = 8
+closes = 18
+if opens:
+    break
