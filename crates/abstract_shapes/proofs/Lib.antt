@@ -1,7 +1,9 @@
-mod SameLemmas
-mod NumberLemmas
-mod TableLemmas
-mod Rows
-mod Once
-mod ViewLemmas
-mod PrintedLemmas
+pub mod SameLemmas
+pub mod SketchLemmas
+pub mod NumberLemmas
+pub mod TableLemmas
+pub mod Rows
+pub mod Once
+pub mod ViewLemmas
+pub mod PrintedLemmas
+pub mod KeptLemmas

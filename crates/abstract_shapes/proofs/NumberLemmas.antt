@@ -1,17 +1,19 @@
 -- What a numbering tells of each shape.
-use Rattle.std.proofs.Common.{◌≡◌, ℕ, zero, suc, ◌+◌, ◌<◌, ◌≤◌, ◌^◌, ◌-◌, ◌⊎◌, ◌==◌, true, false, cond, List, [], ◌∷◌, ◌++◌, length, slice_get, get_or, nat_eq, Option, Some, None, option_map, inl, inr, refl, sym, ap, ◌∙◌, subst, arith, append_assoc, append-nil, length-append}
-use Rattle.std.specs.Option.{unwrap_or, option_eq, MatchOption, IfSome}
-use Rattle.std.specs.Str.{bytes_eq}
+use Rattle.std.proofs.Common.{◌≡◌, ℕ, zero, suc, ◌+◌, ◌<◌, ◌≤◌, ◌^◌, ◌-◌, ◌⊎◌, Bool, true, false, true≢false, ◌||◌, if◌then◌else◌, position, List, [], ◌∷◌, ◌++◌, length, slice_get, get_or, Option, Some, None, option_map, inl, inr, refl, sym, ap, ◌∙◌, subst, arith, append_assoc, append-nil, length-append}
+use Rattle.std.specs.Borrow.{Bor}
+use Rattle.std.specs.Option.{unwrap_or, option_copied, IfSome}
 use Rattle.std.proofs.lemmas.Bool.{cases_Bool}
-use Rattle.std.specs.List.{HoldsAt}
-use Rattle.std.proofs.lemmas.Option.{slice_get_within, slice_get_past, slice_get_read}
-use Rattle.type_terms.specs.View.{term_view}
+use Rattle.std.specs.List.{list_any}
+use Rattle.indexmap.specs.IndexSet.{insert_key}
+use Rattle.std.proofs.lemmas.List.Quantifiers.{position-Some}
+use Rattle.std.proofs.lemmas.Map.Keys.{any_passes_from_place}
+use Rattle.std.proofs.lemmas.Option.{slice_get_within, slice_get-get_or}
 use Rattle.abstract_shapes.specs.declared.shape.Shape as rust
 use Rattle.abstract_shapes.specs.declared.shape.Shape.TheVariants as shape
-use Rattle.abstract_shapes.specs.Numbering.{shape_at, structure, structures_from, structures, IsThere, HasId, HaveOneId, IsNumbering}
-use Rattle.abstract_shapes.specs.Same.{same_term, same_row, same_shape, place_among}
-use Rattle.abstract_shapes.specs.Shapes.{Shape, list, dict, tuple, pair, view, fun, bound, bound_native, class, inst, native, stub_module, given, any}
-use Rattle.abstract_shapes.proofs.SameLemmas.{number_is, number_itself, both_of, both, text_is, text_itself, term_is, term_itself, row_is, row_itself, count_is, count_itself}
+use Rattle.abstract_shapes.specs.Numbering.{shape_at, structure, structures_from, structures, IsThere, IsOuter, HasId, HaveOneId, IsNumbering}
+use Rattle.abstract_shapes.specs.Same.{same_shape}
+use Rattle.abstract_shapes.specs.Shapes.{Shape, bound_native, any}
+use Rattle.abstract_shapes.proofs.SketchLemmas.{HasReceiver, same_sound, same_complete}
 
 -- ---- places in lists
 
@@ -74,56 +76,6 @@ shape_under rs numbering i r h =
     let same : structure (structures rs) r ≡ structure at.0 r = ap (λ xs. structure xs r) at.3 ∙ structure_stays at.0 (structure at.0 r ∷ at.1) r there in
     ap (λ n. slice_get (structures rs) n) (sym long_before) ∙ ap (λ xs. slice_get xs (length at.0)) at.3 ∙ get_seam at.0 (structure at.0 r) at.1 ∙ ap Some (sym same)
 
--- a row that is read
-pub shape_read : (rs : List rust.Shape) → IsNumbering rs → (i : ℕ) (r : rust.Shape) → i < length rs → r ≡ get_or rs i r → structure (structures rs) r ≡ shape_at (structures rs) i
-shape_read rs numbering i r within is = sym (ap (λ s. unwrap_or s any) (shape_under rs numbering i r (slice_get_read rs (length rs) i r refl within is)))
-
--- a row that is lent, if there is one
-module _ {R : Type 0} (now : R → rust.Shape) (rs : List rust.Shape) (numbering : IsNumbering rs) (i : ℕ) where
-  pub shape_lent : (o : Option R) → MatchOption o (length rs ≤ i) (λ x. (i < length rs) × HoldsAt (λ y. now x ≡ y) rs i) → option_map (λ x. structure (structures rs) (now x)) o ≡ slice_get (structures rs) i
-  shape_lent None past = sym (slice_get_past (structures rs) i (omega (arith, past, long rs)))
-  shape_lent (Some x) at = sym (shape_under rs numbering i (now x) (slice_get_read rs (length rs) i (now x) refl at.0 (at.1 (now x))))
-
-  pub receiver_lent : (o : Option R) → MatchOption o (length rs ≤ i) (λ x. (i < length rs) × HoldsAt (λ y. now x ≡ y) rs i) → IfSome o (λ x. IsThere i (now x))
-  receiver_lent None past = tt
-  receiver_lent (Some x) at = numbering.receivers i (now x) (slice_get_read rs (length rs) i (now x) refl at.0 (at.1 (now x)))
-
--- ---- the test of sameness
-
-same_sound : (xs : List Shape) (r s : rust.Shape) → same_shape r s ≡ true → structure xs r ≡ structure xs s
-same_sound xs shape.NoneValue shape.NoneValue h = refl
-same_sound xs shape.TrueValue shape.TrueValue h = refl
-same_sound xs shape.FalseValue shape.FalseValue h = refl
-same_sound xs shape.Int shape.Int h = refl
-same_sound xs shape.Float shape.Float h = refl
-same_sound xs shape.Str shape.Str h = refl
-same_sound xs shape.Bytes shape.Bytes h = refl
-same_sound xs (shape.List n) (shape.List m) h = ap list (number_is n m h)
-same_sound xs (shape.Dict n) (shape.Dict m) h = ap dict (number_is n m h)
-same_sound xs (shape.Tuple n k) (shape.Tuple m l) h =
-    let parts = both_of (n == m) (option_eq nat_eq k l) h in
-    ap (λ x. tuple x k) (number_is n m parts.0) ∙ ap (tuple m) (count_is k l parts.1)
-same_sound xs (shape.Pair n) (shape.Pair m) h = ap pair (number_is n m h)
-same_sound xs (shape.View n) (shape.View m) h = ap view (number_is n m h)
-same_sound xs (shape.Fun n) (shape.Fun m) h = ap fun (number_is n m h)
-same_sound xs (shape.Bound c n) (shape.Bound d m) h =
-    let parts = both_of (c == d) (n == m) h in
-    ap (λ x. bound x n) (number_is c d parts.0) ∙ ap (bound d) (number_is n m parts.1)
-same_sound xs (shape.BoundNative n r) (shape.BoundNative m q) h =
-    let parts = both_of (n == m) (same_row r q) h in
-    ap (λ x. bound_native (shape_at xs x) r) (number_is n m parts.0) ∙ ap (bound_native (shape_at xs m)) (row_is r q parts.1)
-same_sound xs (shape.Class n) (shape.Class m) h = ap class (number_is n m h)
-same_sound xs (shape.Inst n) (shape.Inst m) h = ap inst (number_is n m h)
-same_sound xs (shape.Native r) (shape.Native q) h = ap native (row_is r q h)
-same_sound xs (shape.Module n) (shape.Module m) h = ap stub_module (text_is n m h)
-same_sound xs (shape.Given t) (shape.Given u) h = ap given (term_is (term_view t) (term_view u) h)
-same_sound xs shape.Ext shape.Ext h = refl
-same_sound xs shape.Any shape.Any h = refl
-same_sound xs r s h = absurd (cc)
-
-number_same : (n m : ℕ) → n ≡ m → (n == m) ≡ true
-number_same n m e = ap (λ k. n == k) (sym e) ∙ number_itself n
-
 -- one shape has one id
 receiver_same : (xs : List Shape) → HaveOneId xs → (n m : ℕ) → n < length xs → m < length xs → shape_at xs n ≡ shape_at xs m → n ≡ m
 receiver_same xs once n m h k e =
@@ -131,41 +83,6 @@ receiver_same xs once n m h k e =
     let other = get_there xs m k in
     let one : at.0 ≡ other.0 = sym (ap (λ s. unwrap_or s any) at.1) ∙ e ∙ ap (λ s. unwrap_or s any) other.1 in
     once n m at.0 at.1 (other.1 ∙ ap Some (sym one))
-
-same_complete : (xs : List Shape) → HaveOneId xs → (r s : rust.Shape) → IsThere (length xs) r → IsThere (length xs) s → structure xs r ≡ structure xs s → same_shape r s ≡ true
-same_complete xs once shape.NoneValue shape.NoneValue h k e = refl
-same_complete xs once shape.TrueValue shape.TrueValue h k e = refl
-same_complete xs once shape.FalseValue shape.FalseValue h k e = refl
-same_complete xs once shape.Int shape.Int h k e = refl
-same_complete xs once shape.Float shape.Float h k e = refl
-same_complete xs once shape.Str shape.Str h k e = refl
-same_complete xs once shape.Bytes shape.Bytes h k e = refl
-same_complete xs once (shape.List n) (shape.List m) h k e = number_same n m cc
-same_complete xs once (shape.Dict n) (shape.Dict m) h k e = number_same n m cc
-same_complete xs once (shape.Tuple n a) (shape.Tuple m b) h k e =
-    let ab : a ≡ b = cc in
-    both _ _ (number_same n m cc) (ap (λ x. option_eq nat_eq a x) (sym ab) ∙ count_itself a)
-same_complete xs once (shape.Pair n) (shape.Pair m) h k e = number_same n m cc
-same_complete xs once (shape.View n) (shape.View m) h k e = number_same n m cc
-same_complete xs once (shape.Fun n) (shape.Fun m) h k e = number_same n m cc
-same_complete xs once (shape.Bound c n) (shape.Bound d m) h k e = both _ _ (number_same c d cc) (number_same n m cc)
-same_complete xs once (shape.BoundNative n r) (shape.BoundNative m q) h k e =
-    let rows : r ≡ q = cc in
-    both _ _ (number_same n m (receiver_same xs once n m h k cc)) (ap (λ x. same_row r x) (sym rows) ∙ row_itself r)
-same_complete xs once (shape.Class n) (shape.Class m) h k e = number_same n m cc
-same_complete xs once (shape.Inst n) (shape.Inst m) h k e = number_same n m cc
-same_complete xs once (shape.Native r) (shape.Native q) h k e =
-    let rows : r ≡ q = cc in
-    ap (λ x. same_row r x) (sym rows) ∙ row_itself r
-same_complete xs once (shape.Module n) (shape.Module m) h k e =
-    let texts : n ≡ m = cc in
-    ap (λ x. bytes_eq n x) (sym texts) ∙ text_itself n
-same_complete xs once (shape.Given t) (shape.Given u) h k e =
-    let terms : term_view t ≡ term_view u = cc in
-    ap (λ x. same_term (term_view t) x) (sym terms) ∙ term_itself (term_view t)
-same_complete xs once shape.Ext shape.Ext h k e = refl
-same_complete xs once shape.Any shape.Any h k e = refl
-same_complete xs once r s h k e = absurd (cc)
 
 -- ---- the search
 
@@ -177,60 +94,78 @@ pub none_of : (o : Option ℕ) → option_map suc o ≡ None → o ≡ None
 none_of None h = refl
 none_of (Some j) h = absurd (cc)
 
-zero_of : (i : ℕ) → Some 0 ≡ Some i → 0 ≡ i
-zero_of i h = cc
-
-found_row : (s : rust.Shape) (rs : List rust.Shape) (i : ℕ) → place_among s rs ≡ Some i → (r : rust.Shape) × (slice_get rs i ≡ Some r) × (same_shape r s ≡ true)
-found_row s [] i h = absurd (cc)
-found_row s (r ∷ rs) i h = elim (cases_Bool (same_shape r s)) [
-  | inl is ↦
-      let at : 0 ≡ i = zero_of i (sym (ap (λ t. cond t (Some 0) (option_map suc (place_among s rs))) is) ∙ h) in
-      (r, ap (slice_get (r ∷ rs)) (sym at), is)
-  | inr other ↦
-      let next = next_of (place_among s rs) i (sym (ap (λ t. cond t (Some 0) (option_map suc (place_among s rs))) other) ∙ h) in
-      let more = found_row s rs next.0 next.1 in
-      (more.0, ap (slice_get (r ∷ rs)) (sym next.2) ∙ more.1, more.2)
-]
-
-no_row : (s : rust.Shape) (rs : List rust.Shape) → place_among s rs ≡ None → (i : ℕ) (r : rust.Shape) → slice_get rs i ≡ Some r → same_shape r s ≡ true → ⊥
-no_row s [] h i r at same = absurd (cc)
-no_row s (q ∷ rs) h i r at same = elim (cases_Bool (same_shape q s)) [
-  | inl is ↦ some_none (sym (ap (λ t. cond t (Some 0) (option_map suc (place_among s rs))) is) ∙ h)
-  | inr other ↦ past i at other (no_row s rs (none_of (place_among s rs) (sym (ap (λ t. cond t (Some 0) (option_map suc (place_among s rs))) other) ∙ h)))
-]
-  where
-    some_none : {n : ℕ} → Some n ≡ None → ⊥
-    some_none k = absurd (cc)
-
-    true_false : true ≡ false → ⊥
-    true_false k = absurd (cc)
-
-    past : (i : ℕ) → slice_get (q ∷ rs) i ≡ Some r → same_shape q s ≡ false → ((j : ℕ) (t : rust.Shape) → slice_get rs j ≡ Some t → same_shape t s ≡ true → ⊥) → ⊥
-    past zero at other more = true_false (sym same ∙ ap (λ x. same_shape x s) (sym (some_is q r at)) ∙ other)
-    past (suc j) at other more = more j r at same
-
 -- a row is there for each shape
 row_under : (rs : List rust.Shape) (i : ℕ) (s : Shape) → slice_get (structures rs) i ≡ Some s → (r : rust.Shape) × (slice_get rs i ≡ Some r)
 row_under rs i s h = get_there rs i (omega (arith, slice_get_within (structures rs) i s h, long rs))
 
--- what the search finds has the shape, and is the only one
-pub found : (rs : List rust.Shape) → IsNumbering rs → (s : rust.Shape) (i : ℕ) → place_among s rs ≡ Some i → slice_get (structures rs) i ≡ Some (structure (structures rs) s)
-found rs numbering s i h =
-    let at = found_row s rs i h in
-    shape_under rs numbering i at.0 at.1 ∙ ap Some (same_sound (structures rs) at.0 s at.2)
+-- a row that is the same as a shape has that shape
+same_under : (rs : List rust.Shape) → IsNumbering rs → (s : rust.Shape) (i : ℕ) → i < length rs → same_shape s (get_or rs i s) ≡ true → slice_get (structures rs) i ≡ Some (structure (structures rs) s)
+same_under rs numbering s i within same =
+    shape_under rs numbering i (get_or rs i s) (slice_get-get_or rs i s within) ∙ ap Some (sym (same_sound (shape_at (structures rs)) s (get_or rs i s) same))
 
-pub not_found : (rs : List rust.Shape) → IsNumbering rs → (s : rust.Shape) → IsThere (length rs) s → place_among s rs ≡ None → HasId (structures rs) (structure (structures rs) s) → ⊥
-not_found rs numbering s there h has =
+-- a row that is lent, if there is one
+module _ (rs : List rust.Shape) (numbering : IsNumbering rs) (i : ℕ) where
+  none_under : (o : Option Shape) → slice_get (structures rs) i ≡ o → None ≡ slice_get rs i → None ≡ o
+  none_under None e h = refl
+  none_under (Some s) e h = let row = row_under rs i s e in absurd (cc (h, row.1))
+
+  pub shape_lent : (o : Option (Bor rust.Shape)) → option_copied o ≡ slice_get rs i → option_map (λ x. structure (structures rs) x.now) o ≡ slice_get (structures rs) i
+  shape_lent None e = none_under (slice_get (structures rs) i) refl e
+  shape_lent (Some x) e = sym (shape_under rs numbering i x.now (sym e))
+
+  pub receiver_lent : (o : Option (Bor rust.Shape)) → option_copied o ≡ slice_get rs i → IfSome o (λ x. IsThere i x.now)
+  receiver_lent None e = tt
+  receiver_lent (Some x) e = numbering.receivers i x.now (sym e)
+
+  pub given_lent : (o : Option (Bor rust.Shape)) → option_copied o ≡ slice_get rs i → IfSome o (λ x. IsOuter x.now)
+  given_lent None e = tt
+  given_lent (Some x) e = numbering.givens i x.now (sym e)
+
+  pub truth_lent : (o : Option (Bor rust.Shape)) → option_copied o ≡ slice_get rs i → unwrap_or (option_map (λ x. structure (structures rs) x.now) o) any ≡ shape_at (structures rs) i
+  truth_lent o e = ap (λ s. unwrap_or s any) (shape_lent o e)
+
+-- what the search finds has the shape, and is the only one
+pub found : (rs : List rust.Shape) → IsNumbering rs → (s : rust.Shape) (i : ℕ) → position (same_shape s) rs ≡ Some i → slice_get (structures rs) i ≡ Some (structure (structures rs) s)
+found rs numbering s i h =
+    let facts = position-Some (same_shape s) rs i s h in
+    same_under rs numbering s i facts.0 facts.1
+
+-- a receiver's id is below the count
+there_below : (n : ℕ) (r : rust.Shape) (i : ℕ) → IsThere n r → HasReceiver r i → i < n
+there_below n (shape.BoundNative id row) i there is = subst (λ k. k < n) is there
+there_below n r i there is = absurd is
+
+-- a row that has a shape is the same as it
+under_same : (rs : List rust.Shape) → IsNumbering rs → (s : rust.Shape) → IsThere (length rs) s → HasId (structures rs) (structure (structures rs) s) → list_any (same_shape s) rs ≡ true
+under_same rs numbering s there has =
     let row = row_under rs has.0 (structure (structures rs) s) has.1 in
     let under = shape_under rs numbering has.0 row.0 row.1 in
     let same : structure (structures rs) row.0 ≡ structure (structures rs) s = some_is _ _ (sym under ∙ has.1) in
     let below : has.0 < length rs = slice_get_within rs has.0 row.0 row.1 in
-    no_row s rs h has.0 row.0 row.1
-    (same_complete (structures rs) numbering.once row.0 s (is_there row.0 has.0 (length (structures rs)) (numbering.receivers has.0 row.0 row.1) (omega (arith, below, long rs))) (subst (λ n. IsThere n s) (sym (long rs)) there) same)
+    let one : (n m : ℕ) → HasReceiver s n → HasReceiver row.0 m → shape_at (structures rs) n ≡ shape_at (structures rs) m → n ≡ m =
+    λ n m is also e. receiver_same (structures rs) numbering.once n m (omega (arith, there_below (length rs) s n there is, long rs)) (omega (arith, there_below has.0 row.0 m (numbering.receivers has.0 row.0 row.1) also, below, long rs)) e in
+    any_passes_from_place (same_shape s) rs has.0 row.0 row.1 (same_complete (shape_at (structures rs)) s row.0 one (sym same))
+
+pub not_found : (rs : List rust.Shape) → IsNumbering rs → (s : rust.Shape) → IsThere (length rs) s → list_any (same_shape s) rs ≡ false → HasId (structures rs) (structure (structures rs) s) → ⊥
+not_found rs numbering s there h has = true≢false (sym (under_same rs numbering s there has) ∙ h)
+
+-- a shape with no id is the same as no row
+pub no_row : (rs : List rust.Shape) → IsNumbering rs → (s : rust.Shape) → (HasId (structures rs) (structure (structures rs) s) → ⊥) → list_any (same_shape s) rs ≡ false
+no_row rs numbering s fresh = elim (cases_Bool (list_any (same_shape s) rs)) [
+  | inl is ↦ let at = list_any_some (same_shape s) rs s is in absurd (fresh (at.0, same_under rs numbering s at.0 at.1 at.2))
+  | inr none ↦ none
+]
   where
-    is_there : (r : rust.Shape) (n m : ℕ) → IsThere n r → n ≤ m → IsThere m r
-    is_there (shape.BoundNative id row) n m h le = omega (arith, h, le)
-    is_there r n m h le = tt
+    list_any_some : (p : rust.Shape → Bool) (xs : List rust.Shape) (d : rust.Shape) → list_any p xs ≡ true → (i : ℕ) × (i < length xs) × (p (get_or xs i d) ≡ true)
+    list_any_some p [] d h = absurd (true≢false (sym h))
+    list_any_some p (x ∷ xs) d h = elim (cases_Bool (p x)) [
+      | inl is ↦ (0, omega arith, is)
+      | inr other ↦ let more = list_any_some p xs d (ap (λ t. t || list_any p xs) (sym other) ∙ h) in (suc more.0, omega (arith, more.1), more.2)
+    ]
+
+-- a set's insert of a shape with no id puts it at the end
+pub put_last : (rs : List rust.Shape) → IsNumbering rs → (s : rust.Shape) → (HasId (structures rs) (structure (structures rs) s) → ⊥) → insert_key same_shape rs s ≡ rs ++ s ∷ []
+put_last rs numbering s fresh = ap (λ b. if b then rs else rs ++ s ∷ []) (no_row rs numbering s fresh)
 
 -- ---- a shape that is added
 
@@ -258,11 +193,15 @@ once_more xs s once fresh i j t at other = elim (get_push xs s i t at) [
   ]
 ]
 
-pub numbering_more : (rs : List rust.Shape) (s : rust.Shape) → IsNumbering rs → IsThere (length rs) s → (HasId (structures rs) (structure (structures rs) s) → ⊥) → length rs + 1 ≤ 2 ^ 32 - 1 → IsNumbering (rs ++ s ∷ [])
-numbering_more rs s numbering there fresh room = record {
+pub numbering_more : (rs : List rust.Shape) (s : rust.Shape) → IsNumbering rs → IsThere (length rs) s → IsOuter s → (HasId (structures rs) (structure (structures rs) s) → ⊥) → length rs + 1 ≤ 2 ^ 32 - 1 → IsNumbering (rs ++ s ∷ [])
+numbering_more rs s numbering there outer fresh room = record {
   receivers = λ i r at. elim (get_push rs s i r at) [
     | inl before ↦ numbering.receivers i r before
     | inr end ↦ subst (λ n. IsThere n r) (sym end.0) (subst (IsThere (length rs)) end.1 there)
+  ];
+  givens = λ i r at. elim (get_push rs s i r at) [
+    | inl before ↦ numbering.givens i r before
+    | inr end ↦ subst IsOuter end.1 outer
   ];
   once = subst HaveOneId (sym (pushed rs s)) (once_more (structures rs) (structure (structures rs) s) numbering.once fresh);
   few = omega (arith, room, length-append rs (s ∷ []));
@@ -271,6 +210,7 @@ numbering_more rs s numbering there fresh room = record {
 pub numbering_none : IsNumbering []
 numbering_none = record {
   receivers = λ i r at. absurd (cc);
+  givens = λ i r at. absurd (cc);
   once = λ i j s at other. absurd (cc);
   few = omega arith;
 }

@@ -1,5 +1,5 @@
 -- A set of shapes has one printed type.
-use Rattle.std.proofs.Common.{◌≡◌, ℕ, zero, suc, List, [], ◌∷◌, Some, refl, sym, ap, ◌∙◌, subst}
+use Rattle.std.proofs.Common.{◌≡◌, ℕ, zero, suc, List, ◌∷◌, Some, refl, sym, ap, ◌∙◌, subst}
 use Rattle.type_terms.specs.Laws.{SameMembersSameForm}
 use Rattle.type_terms.specs.Normal.{IsAmong}
 use Rattle.type_terms.specs.Terms as type

@@ -1,7 +1,13 @@
 pub mod Shapes
 pub mod Numbering
+pub mod Sketches
 pub mod Same
+pub mod Marks
+pub mod SameLaws
+pub mod Places
+pub mod PlaceLaws
 pub mod Tables
 pub mod Printed
+pub mod Kept
 pub mod Scenes
 pub mod Laws

@@ -1,5 +1,8 @@
 -- What an abstract value is, by structure: apart from the numbers under which a program keeps it.
 use Rattle.std.specs.Prelude.{ℕ, List, Option}
+use Rattle.builtin_stubs.specs.declared.basic.Basic.{Basic}
+use Rattle.builtin_stubs.specs.declared.basic.Basic.TheVariants as kind
+use Rattle.builtin_stubs.specs.Kinds.{kind_of_term}
 use Rattle.flow_graph.specs.declared.edge.Truth.{Truth}
 use Rattle.flow_graph.specs.declared.edge.Truth.TheVariants.{Yes, No, Both}
 use Rattle.type_terms.specs.Terms.{Term}
@@ -36,6 +39,7 @@ pub data Shape : Type 0 where
   ext : Shape
   -- every value
   any : Shape
+  deriving Discrete as shape-discrete
 
 -- whether the values of a shape are true (language reference, "Truth value testing")
 abbrev pub truth_of : Shape → Truth
@@ -50,3 +54,20 @@ truth_of (inst c) = Yes
 truth_of (native row) = Yes
 truth_of (stub_module m) = Yes
 truth_of _ = Both
+
+-- The kind of a shape's values. Nothing is known of the values of `ext` and `any`.
+abbrev pub kind_of : Shape → Basic
+kind_of none = kind.NoneKind
+kind_of true_value = kind.Bool
+kind_of false_value = kind.Bool
+kind_of int = kind.Int
+kind_of float = kind.Float
+kind_of str = kind.Str
+kind_of bytes = kind.Bytes
+kind_of (list site) = kind.List
+kind_of (dict site) = kind.Dict
+kind_of (tuple site places) = kind.Tuple
+kind_of (pair site) = kind.Tuple
+kind_of (view site) = kind.View
+kind_of (given t) = kind_of_term t
+kind_of _ = kind.Other

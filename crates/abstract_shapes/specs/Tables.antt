@@ -1,39 +1,9 @@
 -- Joined tables: the shapes of each place, as sets.
-use Rattle.std.specs.Prelude.{ℕ, suc, Bool, ◌&&◌, ◌==◌, nat_eq, List, [], ◌∷◌, ◌++◌, Option, Some, None, option_map, if◌then◌else◌}
-use Rattle.std.specs.List.{list_any}
+use Rattle.std.specs.Prelude.{◌≡◌, ℕ, suc, Bool, nat_eq, List, [], ◌∷◌, ◌++◌, length, map, Option, Some, None, option_map, if◌then◌else◌}
+use Rattle.std.specs.List.{list_any, flat_map, IsDistinct}
 use Rattle.abstract_shapes.specs.declared.place.Place.{Place}
-use Rattle.abstract_shapes.specs.declared.place.Place.TheVariants.{Attribute, Member, Element, Key, Value, Part, Global, Raised}
 use Rattle.abstract_shapes.specs.declared.table.TableRow.{TableRow}
-
-abbrev pub kind : Place → ℕ
-kind (Attribute c n) = 0
-kind (Member c n) = 1
-kind (Element site) = 2
-kind (Key site) = 3
-kind (Value site) = 4
-kind (Part site i) = 5
-kind (Global n) = 6
-kind Raised = 7
-
-abbrev pub first : Place → ℕ
-first (Attribute c n) = c
-first (Member c n) = c
-first (Element site) = site
-first (Key site) = site
-first (Value site) = site
-first (Part site i) = site
-first (Global n) = n
-first Raised = 0
-
-abbrev pub second : Place → ℕ
-second (Attribute c n) = n
-second (Member c n) = n
-second (Part site i) = i
-second _ = 0
-
--- whether two places are the same
-abbrev pub same_place : Place → Place → Bool
-same_place p q = (kind p == kind q) && ((first p == first q) && (second p == second q))
+use Rattle.abstract_shapes.specs.Places.{same_place}
 
 -- the ids of a place's shapes
 abbrev pub table_at : List TableRow → Place → List ℕ
@@ -55,3 +25,17 @@ row_number p (row ∷ rows) = if same_place p row.place then Some 0 else option_
 -- a row with a shape in its table
 abbrev pub grown : ℕ → TableRow → TableRow
 grown shape row = record { place = row.place; shapes = with_shape shape row.shapes }
+
+-- the places that have a row
+abbrev pub places_of : List TableRow → List Place
+places_of rows = map (λ row. row.place) rows
+
+-- what rows stand for: each place with each of its shapes
+abbrev pub entries : List TableRow → List (Place × ℕ)
+entries rows = flat_map (λ row. map (λ shape. (row.place, shape)) row.shapes) rows
+
+-- rows with an index of their places, of which no two are one, and a count of their entries
+pub record IsIndexed (rows : List TableRow) (places : List Place) (count : ℕ) : Type 0 where
+  pub places_are : places ≡ places_of rows
+  pub apart : IsDistinct same_place (places_of rows)
+  pub counted : count ≡ length (entries rows)

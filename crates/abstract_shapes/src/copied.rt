@@ -1,10 +1,11 @@
-//! Copies of texts and of types.
-ghost use Rattle.std.specs.Prelude.{◌≡◌, IfOk};
-ghost use Rattle.type_terms.specs.View.{term_view, terms_view};
+//! Copies of texts, rows and shapes.
+ghost use Rattle.std.specs.Prelude.{◌≡◌, List, ℕ, IfOk};
+ghost use Rattle.abstract_shapes.specs.Numbering.{structure, IsThere, IsOuter};
+ghost use Rattle.abstract_shapes.specs.Shapes.{Shape as StructuralShape};
 
+use crate::{Row, Shape};
 use place_ids::Text;
 use std::alloc::{AllocError, Global};
-use type_terms::TypeTerm;
 
 pub(crate) fn copy_text(alloc: Global, bytes: &[u8]) -> Result<Text, AllocError>
     ensures { IfOk result (λ made. made ≡ bytes.now) }
@@ -14,47 +15,54 @@ pub(crate) fn copy_text(alloc: Global, bytes: &[u8]) -> Result<Text, AllocError>
     Ok(made)
 }
 
-#[cycle(copy)]
-pub(crate) fn copy_term(alloc: Global, term: &TypeTerm) -> Result<TypeTerm, AllocError>
-    ensures { IfOk result (λ made. term_view made ≡ term_view term.now) }
+pub(crate) fn copy_row(alloc: Global, row: &Row) -> Result<Row, AllocError>
+    ensures { IfOk result (λ made. made ≡ row.now) }
 {
-    match term {
-        TypeTerm::Any => Ok(TypeTerm::Any),
-        TypeTerm::NoneTerm => Ok(TypeTerm::NoneTerm),
-        TypeTerm::Bool => Ok(TypeTerm::Bool),
-        TypeTerm::Int => Ok(TypeTerm::Int),
-        TypeTerm::Float => Ok(TypeTerm::Float),
-        TypeTerm::Str => Ok(TypeTerm::Str),
-        TypeTerm::Bytes => Ok(TypeTerm::Bytes),
-        TypeTerm::List(item) => Ok(TypeTerm::List(copy_box(alloc, item)?)),
-        TypeTerm::Dict(key, value) => Ok(TypeTerm::Dict(
-            copy_box(alloc, key)?,
-            copy_box(alloc, value)?,
+    match row {
+        Row::Builtin(native) => Ok(Row::Builtin(*native)),
+        Row::StubFun(module, fun) => Ok(Row::StubFun(
+            copy_text(alloc, module.bytes())?,
+            copy_text(alloc, fun.bytes())?,
         )),
-        TypeTerm::Tuple(places) => Ok(TypeTerm::Tuple(copy_terms(alloc, places)?)),
-        TypeTerm::TupleOf(item) => Ok(TypeTerm::TupleOf(copy_box(alloc, item)?)),
-        TypeTerm::Class(name) => Ok(TypeTerm::Class(copy_text(alloc, name.bytes())?)),
-        TypeTerm::ClassOf(name) => Ok(TypeTerm::ClassOf(copy_text(alloc, name.bytes())?)),
-        TypeTerm::Callable(answer) => Ok(TypeTerm::Callable(copy_box(alloc, answer)?)),
-        TypeTerm::Union(members) => Ok(TypeTerm::Union(copy_terms(alloc, members)?)),
+        Row::StubClass(module, class) => Ok(Row::StubClass(
+            copy_text(alloc, module.bytes())?,
+            copy_text(alloc, class.bytes())?,
+        )),
+        Row::StubMethod(module, class, fun) => Ok(Row::StubMethod(
+            copy_text(alloc, module.bytes())?,
+            copy_text(alloc, class.bytes())?,
+            copy_text(alloc, fun.bytes())?,
+        )),
     }
 }
 
-#[cycle(copy)]
-fn copy_box(alloc: Global, term: &TypeTerm) -> Result<Box<TypeTerm>, AllocError>
-    ensures { IfOk result (λ made. term_view made.value ≡ term_view term.now) }
+pub(crate) fn copy_shape(alloc: Global, shape: &Shape) -> Result<Shape, AllocError>
+    ensures same { IfOk result (λ made. (shapes : List StructuralShape) → structure shapes made ≡ structure shapes shape.now) }
+    ensures receiver { IfOk result (λ made. (count : ℕ) → IsThere count shape.now → IsThere count made) }
+    ensures given { IfOk result (λ made. IsOuter shape.now → IsOuter made) }
 {
-    let made = copy_term(alloc, term)?;
-    Ok(Box::new(alloc, made)?)
-}
-
-#[cycle(copy)]
-fn copy_terms(alloc: Global, terms: &[TypeTerm]) -> Result<Vec<TypeTerm>, AllocError>
-    ensures { IfOk result (λ made. terms_view made.items ≡ terms_view terms.now) }
-{
-    let mut made = Vec::new(alloc);
-    for term in terms {
-        made.push(copy_term(alloc, term)?)?;
+    match shape {
+        Shape::NoneValue => Ok(Shape::NoneValue),
+        Shape::TrueValue => Ok(Shape::TrueValue),
+        Shape::FalseValue => Ok(Shape::FalseValue),
+        Shape::Int => Ok(Shape::Int),
+        Shape::Float => Ok(Shape::Float),
+        Shape::Str => Ok(Shape::Str),
+        Shape::Bytes => Ok(Shape::Bytes),
+        Shape::List(site) => Ok(Shape::List(*site)),
+        Shape::Dict(site) => Ok(Shape::Dict(*site)),
+        Shape::Tuple(site, places) => Ok(Shape::Tuple(*site, *places)),
+        Shape::Pair(site) => Ok(Shape::Pair(*site)),
+        Shape::View(site) => Ok(Shape::View(*site)),
+        Shape::Fun(fun) => Ok(Shape::Fun(*fun)),
+        Shape::Bound(class, fun) => Ok(Shape::Bound(*class, *fun)),
+        Shape::BoundNative(id, row) => Ok(Shape::BoundNative(*id, copy_row(alloc, row)?)),
+        Shape::Class(class) => Ok(Shape::Class(*class)),
+        Shape::Inst(class) => Ok(Shape::Inst(*class)),
+        Shape::Native(row) => Ok(Shape::Native(copy_row(alloc, row)?)),
+        Shape::Module(name) => Ok(Shape::Module(copy_text(alloc, name.bytes())?)),
+        Shape::Given(term) => Ok(Shape::Given(term.copy(alloc)?)),
+        Shape::Ext => Ok(Shape::Ext),
+        Shape::Any => Ok(Shape::Any),
     }
-    Ok(made)
 }

@@ -2,13 +2,16 @@
 #![tactic(auto)]
 
 mod copied;
+mod hashed;
+mod hashed_term;
 mod joined;
+mod kept;
+mod kind;
 pub mod laws;
 mod place;
 mod plain;
 mod printed;
 mod same;
-mod same_term;
 mod shape;
 mod shapes;
 mod sources;

@@ -9,7 +9,7 @@ ghost use Rattle.std.specs.Prelude.{Some};
 ghost use Rattle.abstract_shapes.specs.Scenes.{class_name, name_at};
 ghost use Rattle.abstract_shapes.specs.Shapes.{Shape as StructuralShape};
 
-use crate::copied::{copy_term, copy_text};
+use crate::copied::copy_text;
 use crate::{Row, Shape};
 use builtin_stubs::{Builtins, NativeId, NativeSort};
 use place_ids::{ClassId, Id, NameId, Names, Text};
@@ -44,7 +44,7 @@ pub(crate) fn plain_type(
             Ok(Some(TypeTerm::Class(name)))
         }
         Shape::Native(row) => Ok(Some(row_type(alloc, row)?)),
-        Shape::Given(term) => Ok(Some(copy_term(alloc, term)?)),
+        Shape::Given(term) => Ok(Some(term.copy(alloc)?)),
     }
 }
 

@@ -5,6 +5,7 @@ ghost use Rattle.abstract_shapes.specs.Numbering.{structures};
 ghost use Rattle.abstract_shapes.specs.Printed.{IsPrinted};
 ghost use Rattle.abstract_shapes.specs.Scenes.{scene_of, shapes_in, ids_below};
 
+use crate::kept::KeptTypes;
 use crate::sources::{Sources, type_at};
 use crate::{Joined, Shapes};
 use place_ids::{Id, NameId, Names, ShapeId};
@@ -34,7 +35,8 @@ pub fn type_of(
         names,
         classes,
     };
-    type_at(&sources, &ids, depth)
+    let mut kept = KeptTypes::new(alloc);
+    type_at(&sources, &mut kept, &ids, depth)
 }
 
 // The ids below a count that are in a set.

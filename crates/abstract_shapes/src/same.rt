@@ -1,12 +1,32 @@
 //! Whether two rows, or two shapes, are the same.
 ghost use Rattle.std.specs.Prelude.{◌≡◌};
 ghost use Rattle.std.specs.Str.{bytes_eq};
-ghost use Rattle.abstract_shapes.specs.declared.shape.Shape.TheVariants.{Tuple, Bound, BoundNative};
+ghost use Rattle.abstract_shapes.specs.declared.shape.Shape.TheVariants.{Tuple, Bound, BoundNative, Given};
 ghost use Rattle.abstract_shapes.specs.Same.{same_row, same_shape};
 
-use crate::same_term::same_term;
 use crate::{Row, Shape};
 use place_ids::{ClassId, FunId, ShapeId, SiteId, Text};
+use type_terms::TypeTerm;
+
+impl PartialEq for Shape {
+    ghost use Rattle.std.specs.Cmp.{partial_equiv_from_equiv};
+    ghost use Rattle.abstract_shapes.specs.Same.{same_shape};
+    ghost use Rattle.abstract_shapes.specs.SameLaws.{same_equiv};
+
+    ghost eq = { same_shape };
+
+    ghost laws = { partial_equiv_from_equiv same_equiv };
+
+    fn eq(&self, other: &Shape) -> bool {
+        same_shape(self, other)
+    }
+}
+
+impl Eq for Shape {
+    ghost use Rattle.abstract_shapes.specs.SameLaws.{same_equiv};
+
+    ghost laws = { same_equiv };
+}
 
 fn same_text(first: &Text, second: &Text) -> bool
     ensures { result ≡ bytes_eq first.now second.now }
@@ -56,7 +76,7 @@ pub(crate) fn same_shape(first: &Shape, second: &Shape) -> bool
         Shape::Inst(class) => matches!(second, Shape::Inst(other) if class == other),
         Shape::Native(row) => matches!(second, Shape::Native(other) if same_row(row, other)),
         Shape::Module(name) => matches!(second, Shape::Module(other) if same_text(name, other)),
-        Shape::Given(term) => matches!(second, Shape::Given(other) if same_term(term, other)),
+        Shape::Given(term) => is_given(term, second),
         Shape::Ext => matches!(second, Shape::Ext),
         Shape::Any => matches!(second, Shape::Any),
     }
@@ -85,6 +105,15 @@ fn is_bound_native(receiver: ShapeId, row: &Row, shape: &Shape) -> bool
 {
     match shape {
         Shape::BoundNative(other, native) => receiver == *other && same_row(row, native),
+        _ => false,
+    }
+}
+
+fn is_given(term: &TypeTerm, shape: &Shape) -> bool
+    ensures { result ≡ same_shape (Given term.now) shape.now }
+{
+    match shape {
+        Shape::Given(other) => term.same(other),
         _ => false,
     }
 }

@@ -1,6 +1,13 @@
 //! Abstract values.
-use builtin_stubs::NativeId;
+ghost use Rattle.std.specs.Prelude.{◌≡◌, List, ℕ, IfOk};
+ghost use Rattle.abstract_shapes.specs.Numbering.{structure, IsThere, IsOuter};
+ghost use Rattle.abstract_shapes.specs.Shapes.{kind_of, Shape as StructuralShape};
+
+use crate::copied::copy_shape;
+use crate::kind::kind_of;
+use builtin_stubs::{Basic, NativeId};
 use place_ids::{ClassId, FunId, ShapeId, SiteId, Text};
+use std::alloc::{AllocError, Global};
 use type_terms::TypeTerm;
 
 /// A function, class or method that isn't the module's own.
@@ -49,4 +56,22 @@ pub enum Shape {
     Ext,
     /// Every value.
     Any,
+}
+
+impl Shape {
+    /// The kind of the shape's values. Where nothing is known of them it is `Other`.
+    pub fn kind(&self) -> Basic
+        ensures { (shapes : List StructuralShape) → result ≡ kind_of (structure shapes self.now) }
+    {
+        kind_of(self)
+    }
+
+    /// The same shape again, where receivers are numbered in one table.
+    pub fn copy(&self, alloc: Global) -> Result<Shape, AllocError>
+        ensures same { IfOk result (λ made. (shapes : List StructuralShape) → structure shapes made ≡ structure shapes self.now) }
+        ensures receiver { IfOk result (λ made. (count : ℕ) → IsThere count self.now → IsThere count made) }
+        ensures given { IfOk result (λ made. IsOuter self.now → IsOuter made) }
+    {
+        copy_shape(alloc, self)
+    }
 }

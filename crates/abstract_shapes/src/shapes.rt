@@ -1,13 +1,12 @@
 //! Shapes under ids.
 ghost use Rattle.std.specs.Prelude.{◌≡◌, ◌↔◌, ◌+◌, ◌-◌, ◌^◌, ◌<◌, [], ◌∷◌, ◌++◌, Some, None, length, slice_get, option_map, IsErrOf, IsOk, IfOk, IfSome, OnOk, OnErr};
-ghost use Rattle.abstract_shapes.specs.Numbering.{structure, structures, shape_at, IsThere, HasId, HaveOneId};
-ghost use Rattle.abstract_shapes.specs.Same.{place_among};
+ghost use Rattle.abstract_shapes.specs.Numbering.{structure, structures, shape_at, IsThere, IsOuter, HasId, HaveOneId};
 ghost use Rattle.std.specs.Prelude.{List};
 ghost use Rattle.abstract_shapes.specs.Shapes.{truth_of, Shape as StructuralShape};
 
 use crate::Shape;
-use crate::same::same_shape;
 use flow_graph::Truth;
+use indexmap::IndexSet;
 use place_ids::{Id, PushFault, ShapeId};
 use std::alloc::Global;
 use std::marker::Model;
@@ -15,7 +14,7 @@ use std::marker::Model;
 /// Shapes under ids that number them from 0. Contracts see the list of what was kept, and by it the shapes by structure.
 #[derive(Debug, Drop)]
 pub struct Shapes {
-    rows: Vec<Shape>,
+    rows: IndexSet<Shape>,
 }
 
 impl Model for Shapes {
@@ -30,9 +29,9 @@ impl Model for Shapes {
 
     ghost use Rattle.abstract_shapes.specs.Numbering.{IsNumbering};
 
-    ghost view = { λ shapes. shapes.rows.items };
+    ghost view = { λ shapes. shapes.rows.keys };
 
-    ghost invariant = { λ shapes. IsNumbering shapes.rows.items };
+    ghost invariant = { λ shapes. IsNumbering shapes.rows.keys };
 }
 
 impl Shapes {
@@ -41,13 +40,14 @@ impl Shapes {
         ensures { result ≡ [] }
     {
         Shapes {
-            rows: Vec::new(alloc),
+            rows: IndexSet::new(alloc),
         }
     }
 
     /// The id of a shape, which is put at the end if it is new. One that is there already keeps its id, and is dropped.
     pub fn intern(&mut self, shape: Shape) -> Result<ShapeId, PushFault>
-        requires { IsThere (length self.old) shape }
+        requires receiver { IsThere (length self.old) shape }
+        requires given { IsOuter shape }
         ensures numbered { IfOk result (λ id. slice_get (structures self.new) id ≡ Some (structure (structures self.old) shape)) }
         ensures known { HasId (structures self.old) (structure (structures self.old) shape) → IsOk result × (self.new ≡ self.old) }
         ensures fresh { (HasId (structures self.old) (structure (structures self.old) shape) → ⊥) →
@@ -68,9 +68,10 @@ impl Shapes {
     pub fn shape(&self, id: ShapeId) -> Option<&Shape>
         ensures shape { option_map (λ shape. structure (structures self.now) shape.now) result ≡ slice_get (structures self.now) id }
         ensures receiver { IfSome result (λ shape. IsThere id shape.now) }
+        ensures given { IfSome result (λ shape. IsOuter shape.now) }
         ensures once { HaveOneId (structures self.now) }
     {
-        self.rows.get(id.number() as usize)
+        self.rows.get_index(id.number() as usize)
     }
 
     /// Whether the values of a shape are true.
@@ -78,11 +79,14 @@ impl Shapes {
         requires { id < length self.now }
         ensures { result ≡ truth_of (shape_at (structures self.now) id) }
     {
-        truth_of(&self.rows[id.number() as usize])
+        match self.rows.get_index(id.number() as usize) {
+            Some(shape) => truth_of(shape),
+            None => Truth::Both,
+        }
     }
 
     /// How many shapes there are.
-    pub(crate) fn len(&self) -> u32
+    pub fn len(&self) -> u32
         ensures { result ≡ length self.now }
     {
         self.rows.len() as u32
@@ -95,15 +99,14 @@ impl Shapes {
         ensures none { result ≡ None → IsThere (length self.now) shape.now → HasId (structures self.now) (structure (structures self.now) shape.now) → ⊥ }
         ensures once { HaveOneId (structures self.now) }
     {
-        match place_of(&self.rows, shape) {
-            Some(place) => Some(ShapeId::new(place as u32)),
-            None => None,
-        }
+        let place = self.rows.get_index_of(shape)?;
+        Some(ShapeId::new(place as u32))
     }
 
     // Puts a shape at the end that isn't there yet.
     fn add(&mut self, shape: Shape) -> Result<ShapeId, PushFault>
         requires receiver { IsThere (length self.old) shape }
+        requires given { IsOuter shape }
         requires fresh { HasId (structures self.old) (structure (structures self.old) shape) → ⊥ }
         ensures added { OnOk result (structures self.new ≡ structures self.old ++ structure (structures self.old) shape ∷ []) }
         ensures numbered { IfOk result (λ id. slice_get (structures self.new) id ≡ Some (structure (structures self.old) shape)) }
@@ -116,24 +119,11 @@ impl Shapes {
         if number == u32::MAX {
             return Err(PushFault::Full);
         }
-        match self.rows.push(shape) {
-            Ok(()) => Ok(ShapeId::new(number)),
+        match self.rows.insert(shape) {
+            Ok(_) => Ok(ShapeId::new(number)),
             Err(_) => Err(PushFault::Memory),
         }
     }
-}
-
-// Where a shape stands first among others.
-fn place_of(rows: &[Shape], shape: &Shape) -> Option<usize>
-    ensures place { result ≡ place_among shape.now rows.now }
-    ensures within { IfSome result (λ place. place < length rows.now) }
-{
-    for (place, row) in rows.iter().enumerate() {
-        if same_shape(row, shape) {
-            return Some(place);
-        }
-    }
-    None
 }
 
 fn truth_of(shape: &Shape) -> Truth

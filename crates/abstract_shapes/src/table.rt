@@ -1,9 +1,10 @@
 //! The shapes of one place.
-ghost use Rattle.std.specs.Prelude.{◌≡◌, List, [], ◌∷◌, ◌++◌, not, nat_eq, IfOk, OnOk, OnErr};
+ghost use Rattle.std.specs.Prelude.{◌≡◌, [], true, not, nat_eq, IsOk, IfOk, OnOk, OnErr};
 ghost use Rattle.std.specs.List.{IsDistinct};
 ghost use Rattle.abstract_shapes.specs.Tables.{has_shape, with_shape};
 
 use crate::Place;
+use indexmap::IndexSet;
 use place_ids::ShapeId;
 use std::alloc::{AllocError, Global};
 use std::marker::Model;
@@ -11,7 +12,7 @@ use std::marker::Model;
 /// Shapes in the order in which they came, each once.
 #[derive(Debug, Drop)]
 pub(crate) struct Table {
-    shapes: Vec<ShapeId>,
+    shapes: IndexSet<ShapeId>,
 }
 
 /// A place and its shapes.
@@ -26,12 +27,12 @@ impl Model for Table {
 
     ghost Value = { List ℕ };
 
-    ghost view = { λ table. table.shapes.items };
+    ghost view = { λ table. table.shapes.keys };
 
     ghost use Rattle.std.specs.Prelude.{nat_eq};
     ghost use Rattle.std.specs.List.{IsDistinct};
 
-    ghost invariant = { λ table. IsDistinct nat_eq table.shapes.items };
+    ghost invariant = { λ table. IsDistinct nat_eq table.shapes.keys };
 }
 
 impl Table {
@@ -39,7 +40,7 @@ impl Table {
         ensures { result ≡ [] }
     {
         Table {
-            shapes: Vec::new(alloc),
+            shapes: IndexSet::new(alloc),
         }
     }
 
@@ -50,27 +51,22 @@ impl Table {
         self.shapes.as_slice()
     }
 
-    /// Adds a shape, and answers whether it is new.
+    pub(crate) fn has(&self, shape: ShapeId) -> bool
+        ensures { result ≡ has_shape shape self.now }
+    {
+        self.shapes.contains(&shape)
+    }
+
+    /// Adds a shape, and answers whether it is new. One that is there takes no memory.
     pub(crate) fn add(&mut self, shape: ShapeId) -> Result<bool, AllocError>
         ensures added { OnOk result (self.new ≡ with_shape shape self.old) }
         ensures fresh { IfOk result (λ fresh. fresh ≡ not (has_shape shape self.old)) }
+        ensures known { has_shape shape self.old ≡ true → IsOk result }
         ensures refused { OnErr result (self.new ≡ self.old) }
     {
-        if has_shape(self.shapes.as_slice(), shape) {
-            return Ok(false);
-        }
-        self.shapes.push(shape)?;
-        Ok(true)
-    }
-}
-
-fn has_shape(shapes: &[ShapeId], shape: ShapeId) -> bool
-    ensures { result ≡ has_shape shape shapes.now }
-{
-    for other in shapes {
-        if shape == *other {
-            return true;
+        match self.shapes.insert(shape) {
+            Ok(fresh) => Ok(fresh),
+            Err(_) => Err(AllocError),
         }
     }
-    false
 }

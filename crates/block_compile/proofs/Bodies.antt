@@ -1,14 +1,13 @@
 -- Statements, arms and clauses one after another.
 use Rattle.std.proofs.Common.{◌≡◌, ℕ, ◌+◌, ◌<◌, List, [], ◌∷◌, ◌++◌, drop, length, get_or, Option, Some, None, refl, sym, ap, subst, ◌∙◌}
 use Rattle.std.proofs.lemmas.List.{drop_more}
-use Rattle.py_tree.specs.Tree.{Expr, Stmt, statement, Stmts, stmt, Arms, no_arms, arm, Handlers, handler, Member, value, declared, pass_member, ellipsis_member, text, method, Members, no_members, member}
+use Rattle.py_tree.specs.Tree.{Expr, Stmt, statement, Stmts, stmt, Arms, no_arms, arm, Handlers, handler, Member, value, declared, pass_member, ellipsis_member, text, method, Members, member}
 use Rattle.py_tree.specs.View.{stmt_view, stmts_view, arm_view, arms_view, Handler, handler_view, handlers_view, member_view, members_view}
 use Rattle.py_tree.specs.declared.definition.Member as rust_member
 use Rattle.py_tree.specs.declared.statement.Arm as rust_arm
 use Rattle.py_tree.specs.declared.statement.Handler as rust_handler
 use Rattle.py_tree.specs.declared.statement.Stmt as rust_stmt
 use Rattle.stack_code.specs.declared.op.Op.TheVariants as op
-use Rattle.tree_code.specs.Names.{store, forget}
 use Rattle.tree_code.specs.Expressions as codes
 use Rattle.tree_code.specs.Expressions.{put}
 use Rattle.tree_code.specs.Pieces.{Piece, Labels, one, ◌⨾◌, fork}
@@ -20,7 +19,7 @@ use Rattle.block_compile.specs.Emits.{Emits, Begins, EndsOpen}
 use Rattle.expr_compile.specs.Jumps.{landed}
 use Rattle.expr_compile.specs.Growth.{Grows}
 use Rattle.block_compile.specs.PlaceOf.{statement_code, clause_inner, clause_of, clause_code, member_value}
-use Rattle.block_compile.proofs.Emitting.{landed_push, sized_then, sized_one, sized_nothing, sized_fork, emits_piece, emits_then}
+use Rattle.block_compile.proofs.Emitting.{landed_push, sized_then, sized_one, sized_fork, emits_piece, emits_then}
 use Rattle.block_compile.proofs.Loops.{piece_then, piece_nothing, bare_begins}
 use Rattle.block_compile.proofs.Steps.{clause_done}
 

@@ -1,5 +1,5 @@
 -- Code that is finished: it is that of a tree, and valid, so that it has no fault.
-use Rattle.std.proofs.Common.{◌≡◌, ℕ, suc, ◌-◌, List, [], ◌∷◌, map, length, slice_get, false, Some, None, sym, ap, subst, ◌∙◌, arith}
+use Rattle.std.proofs.Common.{◌≡◌, ℕ, suc, ◌-◌, List, [], ◌∷◌, map, length, slice_get, false, Some, sym, ap, subst, ◌∙◌, arith}
 use Rattle.std.proofs.lemmas.List.{length-map}
 use Rattle.py_tree.specs.Tree.{Param, Stmts, no_stmts, stmt, FunDef, fun_def}
 use Rattle.py_tree.specs.View.{param_view, fun_view, stmts_view}

@@ -2,7 +2,7 @@
 use Rattle.std.proofs.Common.{◌≡◌, ℕ, ◌+◌, ◌<◌, List, ◌∷◌, drop, map, length, get_or, refl, sym, ap, subst, ◌∙◌}
 use Rattle.std.proofs.lemmas.List.{drop_more}
 use Rattle.py_tree.specs.Tree.{Stmts, stmt, Stmt, statement, StmtKind, def, class, FunDef, fun_def, ClassDef, Member, method, Members, member}
-use Rattle.py_tree.specs.View.{Arm, Handler, member_step, stmt_kind_step, class_step, fun_step, arm_step, handler_step, stmt_step, stmt_view, stmts_view, stmt_kind_view, fun_view, class_view, param_view, member_view, members_view}
+use Rattle.py_tree.specs.View.{Arm, Handler, member_step, stmt_kind_step, class_step, fun_step, arm_step, handler_step, stmt_step, stmts_view, stmt_kind_view, fun_view, class_view, param_view, member_view, members_view}
 use Rattle.py_tree.specs.declared.definition.ClassDef as rust_class
 use Rattle.py_tree.specs.declared.definition.FunDef as rust_fun
 use Rattle.py_tree.specs.declared.definition.FunDef.{out-FunDef, fold_out-FunDef}

@@ -2,7 +2,7 @@
 use Rattle.std.specs.Prelude.{◌≡◌, ℕ, List, [], ◌∷◌, ◌++◌, length}
 use Rattle.stack_code.specs.declared.op.Op.TheVariants.{Caught, Jump}
 use Rattle.tree_code.specs.declared.instr.Instr.{Instr}
-use Rattle.tree_code.specs.Pieces.{Piece, Labels}
+use Rattle.tree_code.specs.Pieces.{Piece}
 use Rattle.tree_code.specs.Standing.{IsSized}
 use Rattle.expr_compile.specs.Emitted.{Emitted, with_instr}
 use Rattle.expr_compile.specs.Jumps.{turned, landed, unset, with_range}

@@ -1,4 +1,5 @@
 pub mod Meanings
+pub mod Exceptions
 pub mod Natives
 pub mod Operands
 pub mod Operators

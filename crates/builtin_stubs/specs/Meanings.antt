@@ -1,5 +1,5 @@
 -- What a row of the tables of natives says: the arguments, what enters the receiver, and what comes back.
-use Rattle.std.specs.Prelude.{ℕ, Bool, true, false, List, [], ◌∷◌, Option, Some, None}
+use Rattle.std.specs.Prelude.{ℕ, Bool, false, List, [], ◌∷◌, Option, Some, None}
 use Rattle.builtin_stubs.specs.declared.basic.Basic.TheVariants.{NoneKind}
 use Rattle.builtin_stubs.specs.declared.deed.Deed.{Deed}
 use Rattle.builtin_stubs.specs.declared.deed.Deed.TheVariants as deed
@@ -68,11 +68,6 @@ outcome_of deed.GetsValue = outcome.Gives (parts.Two part.OwnValues (part.Argume
 outcome_of deed.PopsPair = outcome.Gives (parts.Two part.OwnValues (part.Argument 1))
 outcome_of deed.SetsDefault = outcome.Gives (parts.Two part.OwnValues (part.Argument 1))
 outcome_of _ = gives_none
-
--- whether it is a class that gives an instance of itself
-abbrev pub gives_instance : Deed → Bool
-gives_instance (deed.ByParts es outcome.InstanceOfIt) = true
-gives_instance _ = false
 
 -- ---- a row
 

@@ -1,17 +1,22 @@
 -- All natives in the order of their numbers, and the number under a name.
-use Rattle.std.specs.Prelude.{ℕ, suc, ◌+◌, List, [], ◌∷◌, ◌++◌, Option, Some, None, option_map, map, length, slice_get, if◌then◌else◌}
+use Rattle.std.specs.Prelude.{ℕ, suc, false, ◌+◌, List, [], ◌∷◌, ◌++◌, Option, Some, None, option_map, map, length, slice_get, if◌then◌else◌}
 use Rattle.std.specs.Str.{bytes_eq}
 use Rattle.builtin_stubs.specs.declared.basic.Basic.{Basic}
 use Rattle.builtin_stubs.specs.declared.basic.Basic.TheVariants as kinds
 use Rattle.builtin_stubs.specs.declared.bytes_methods.TheConstants.{BYTES_METHODS, INT_METHODS, FLOAT_METHODS, EXCEPTION_METHODS}
 use Rattle.builtin_stubs.specs.declared.container_methods.TheConstants.{LIST_METHODS, DICT_METHODS, TUPLE_METHODS}
 use Rattle.builtin_stubs.specs.declared.deed.Deed.{Deed}
-use Rattle.builtin_stubs.specs.declared.functions.TheConstants.{FUNCTIONS}
+use Rattle.builtin_stubs.specs.declared.deed.Deed.TheVariants as deeds
+use Rattle.builtin_stubs.specs.declared.functions.TheConstants.{FUNCTIONS, OTHERS}
 use Rattle.builtin_stubs.specs.declared.native.NativeRow.{NativeRow}
 use Rattle.builtin_stubs.specs.declared.native.NativeSort.{NativeSort}
+use Rattle.builtin_stubs.specs.declared.native.NativeSort.TheVariants as sorts
 use Rattle.builtin_stubs.specs.declared.native.Takes.{Takes}
+use Rattle.builtin_stubs.specs.declared.parts.Effects.TheVariants as effects
+use Rattle.builtin_stubs.specs.declared.parts.Outcome.TheVariants as outcomes
 use Rattle.builtin_stubs.specs.declared.str_methods.TheConstants.{STR_METHODS}
 use Rattle.builtin_stubs.specs.Meanings.{Native}
+use Rattle.type_terms.specs.Exceptions.{exception_names}
 
 -- ---- the tables
 
@@ -19,8 +24,22 @@ abbrev pub native : List ℕ → NativeSort → Takes → (words : List (List �
 native name sort takes words deed =
     record { name = name; sort = sort; arguments = record { least = takes.least; most = takes.most; words = words; any_words = takes.any_words }; deed = deed }
 
+-- an exception class takes any arguments by position, and gives an instance of itself
+abbrev pub exception_native : List ℕ → Native
+exception_native name =
+    native name sorts.Class (record { least = 0; most = None; any_words = false }) [] (deeds.ByParts effects.Nothing outcomes.InstanceOfIt)
+
+-- what stands before the exceptions
+abbrev pub first_natives : List Native
+first_natives = map (λ e. native e.0.now e.1 e.2 (map (λ word. word.now) e.3.now) e.4) FUNCTIONS.now
+
+-- what stands behind them
+abbrev pub other_natives : List Native
+other_natives = map (λ e. native e.0.now e.1 e.2 (map (λ word. word.now) e.3.now) e.4) OTHERS.now
+
+-- the functions and classes, with the exceptions in the order in which their hierarchy mentions them
 abbrev pub function_natives : List Native
-function_natives = map (λ e. native e.0.now e.1 e.2 (map (λ word. word.now) e.3.now) e.4) FUNCTIONS.now
+function_natives = first_natives ++ map exception_native exception_names ++ other_natives
 
 abbrev pub list_natives : List Native
 list_natives = map (λ e. native e.0.now e.1 e.2 (map (λ word. word.now) e.3.now) e.4) LIST_METHODS.now

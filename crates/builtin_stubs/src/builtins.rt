@@ -8,8 +8,7 @@ ghost use Rattle.builtin_stubs.specs.Natives.{function_number, method_number, ro
 ghost use Rattle.builtin_stubs.specs.Operators.{op_kinds, unary_kinds, compare_kinds, answer};
 ghost use Rattle.builtin_stubs.specs.Outside.{outside_names};
 
-use crate::functions::FUNCTIONS;
-use crate::look_ups::{before_methods, find_native, methods_of, native_at};
+use crate::look_ups::{before_methods, find_function, find_native, methods_of, native_at};
 use crate::{Basic, NativeId, NativeRow, OpRow, Part, Sameness, kinds, operators, outside};
 use place_ids::{BinOp, CompareOp, Id, UnaryOp};
 use type_terms::TypeTerm;
@@ -23,7 +22,7 @@ impl Builtins {
     pub fn fun(&self, name: &str) -> Option<NativeId>
         ensures { result ≡ function_number name.now }
     {
-        find_native(0, FUNCTIONS, name)
+        find_function(name)
     }
 
     /// The number of a method, or of another attribute, of a kind of values.

@@ -1,22 +1,13 @@
-//! The builtin functions and classes (library reference, "Built-in Functions", "Built-in Exceptions").
+//! The builtin functions and classes (library reference, "Built-in Functions").
 use crate::Basic;
 use crate::NativeSort::{Class, Function, Value};
-use crate::Outcome::{
-    FreshObject, InstanceOfIt, LeastOrMost, NewDict, NewList, NewTuple, PairView, TestsClass,
-};
+use crate::Outcome::{FreshObject, LeastOrMost, NewDict, NewList, NewTuple, PairView, TestsClass};
 use crate::Part::{Items, Keys, Kind, Values, WordNames, WordValues};
 use crate::Parts::{One, Two};
 use crate::entries::{any, gives, only, takes};
 use crate::native::Entry;
 
-/// A builtin exception class.
-macro_rules! exception {
-    ($name:literal) => {
-        ($name, Class, takes!(0 to any), &[], only!(InstanceOfIt))
-    };
-}
-
-/// In the order of their numbers. `base_init` is the `__init__` of a class that defines none.
+/// The functions, and the classes but the exceptions, in the order of their numbers.
 pub(crate) const FUNCTIONS: &[Entry] = &[
     ("print", Function, any!(), &[], gives!(NoneKind)),
     ("input", Function, any!(), &[], gives!(Str)),
@@ -85,40 +76,10 @@ pub(crate) const FUNCTIONS: &[Entry] = &[
     ("bool", Class, takes!(0 to 1), &[], gives!(Bool)),
     ("range", Class, takes!(1 to 3), &[], gives!(Range)),
     ("object", Class, takes!(0), &[], only!(FreshObject)),
-    exception!("BaseException"),
-    exception!("SystemExit"),
-    exception!("KeyboardInterrupt"),
-    exception!("GeneratorExit"),
-    exception!("Exception"),
-    exception!("ArithmeticError"),
-    exception!("AssertionError"),
-    exception!("AttributeError"),
-    exception!("EOFError"),
-    exception!("ImportError"),
-    exception!("LookupError"),
-    exception!("MemoryError"),
-    exception!("NameError"),
-    exception!("OSError"),
-    exception!("RuntimeError"),
-    exception!("StopIteration"),
-    exception!("TypeError"),
-    exception!("ValueError"),
-    exception!("OverflowError"),
-    exception!("ZeroDivisionError"),
-    exception!("ModuleNotFoundError"),
-    exception!("IndexError"),
-    exception!("KeyError"),
-    exception!("UnboundLocalError"),
-    exception!("FileExistsError"),
-    exception!("FileNotFoundError"),
-    exception!("PermissionError"),
-    exception!("TimeoutError"),
-    exception!("ConnectionError"),
-    exception!("NotImplementedError"),
-    exception!("RecursionError"),
-    exception!("UnicodeError"),
-    exception!("UnicodeDecodeError"),
-    exception!("UnicodeEncodeError"),
+];
+
+/// What stands behind the exceptions. `base_init` is the `__init__` of a class that defines none.
+pub(crate) const OTHERS: &[Entry] = &[
     ("base_init", Function, any!(), &[], gives!(NoneKind)),
     ("__name__", Value, takes!(0), &[], gives!(Str)),
     ("__file__", Value, takes!(0), &[], gives!(Str)),

@@ -1,11 +1,7 @@
 //! What iterating, subscripts, `is` and `isinstance` do by kinds (language reference, "The for statement", "Subscriptions",
 //! "Sameness comparisons"; library reference, "isinstance").
-ghost use Rattle.std.specs.Prelude.{◌≡◌, ◌&&◌, map};
-ghost use Rattle.std.specs.List.{list_any};
-ghost use Rattle.std.specs.Str.{bytes_eq};
-ghost use Rattle.type_terms.specs.Exceptions.{is_exception};
+ghost use Rattle.std.specs.Prelude.{◌≡◌, map};
 ghost use Rattle.type_terms.specs.View.{term_view};
-ghost use Rattle.builtin_stubs.specs.Meanings.{gives_instance};
 ghost use Rattle.builtin_stubs.specs.Operands.{first_of};
 ghost use Rattle.builtin_stubs.specs.Kinds.{items_of, part_by, part_of, identity, classes_of, kind_of_instance, kind_of_term};
 
@@ -13,10 +9,9 @@ use crate::Operand::{
     Anything, Binary, Fixed, Key, Mapping, Nothing, Number, Row, Span, Text, Truth, Viewed, Whole,
 };
 use crate::Part::{Kind, OwnElements, OwnKeys, OwnValues};
-use crate::functions::FUNCTIONS;
-use crate::native::Entry;
+use crate::exceptions::is_exception;
 use crate::operand::{first_of, first_of_two};
-use crate::{Basic, Deed, Operand, Outcome, Part};
+use crate::{Basic, Operand, Part};
 use type_terms::TypeTerm;
 
 /// What `is` tells of two values.
@@ -147,24 +142,4 @@ fn kind_of_instance(name: &[u8]) -> Basic
     } else {
         Basic::Other
     }
-}
-
-// The exception classes are those that give an instance of themselves.
-fn is_exception(name: &[u8]) -> bool
-    ensures { result ≡ is_exception name.now }
-{
-    has_instance_row(FUNCTIONS, name)
-}
-
-fn has_instance_row(rows: &[Entry], name: &[u8]) -> bool
-    ensures { result ≡ list_any (λ e. gives_instance e.4 && bytes_eq name.now e.0.now) rows.now }
-{
-    rows.iter()
-        .any(|row| gives_instance(row.4) && name == row.0.as_bytes())
-}
-
-fn gives_instance(deed: Deed) -> bool
-    ensures { result ≡ gives_instance deed }
-{
-    matches!(deed, Deed::ByParts(_, Outcome::InstanceOfIt))
 }

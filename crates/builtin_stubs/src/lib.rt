@@ -7,6 +7,7 @@ mod bytes_methods;
 mod container_methods;
 mod deed;
 mod entries;
+mod exceptions;
 mod functions;
 mod kinds;
 pub mod laws;

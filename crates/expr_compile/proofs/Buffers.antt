@@ -1,6 +1,6 @@
 -- Jumps that are aimed again, and instructions that are taken apart.
-use Rattle.std.proofs.Common.{◌≡◌, ℕ, suc, zero, ◌+◌, ◌<◌, List, [], ◌∷◌, ◌++◌, drop, map, reverse, length, get_or, set, slice_get, Some, None, refl, sym, ap, ◌∙◌, arith, append_assoc}
-use Rattle.std.proofs.lemmas.List.{drop_more, map-append, reverse-append, append-nil}
+use Rattle.std.proofs.Common.{◌≡◌, ℕ, suc, zero, ◌+◌, ◌<◌, List, [], ◌∷◌, ◌++◌, drop, map, reverse, length, get_or, set, slice_get, Some, None, refl, sym, ap, ◌∙◌, append_assoc}
+use Rattle.std.proofs.lemmas.List.{drop_more, map-append, reverse-append}
 use Rattle.stack_code.specs.declared.op.Op.TheVariants.{Jump}
 use Rattle.tree_code.specs.declared.instr.Instr.{Instr}
 use Rattle.tree_code.specs.Pieces.{instr}

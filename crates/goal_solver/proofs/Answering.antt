@@ -1,6 +1,5 @@
 -- The solver's answers are right, and remembered.
-use Rattle.std.proofs.Common.{Result, Ok, Err, IfOk, ◌≡◌, ℕ, ◌≤◌, Bool, true, false, not, Option, Some, None, List, ◌++◌, map, length, refl, sym, ap, subst, ◌∙◌, ◌⊎◌, inl, inr, IsTrue, ◌↔◌, if◌then◌else◌}
-use Rattle.std.specs.List.{Contains}
+use Rattle.std.proofs.Common.{Result, Ok, Err, IfOk, ◌≡◌, ℕ, ◌≤◌, Bool, true, false, Some, List, ◌++◌, length, refl, sym, subst, ◌⊎◌, inl, IsTrue, ◌↔◌}
 use Rattle.std.specs.Result.{OnErr}
 use Rattle.graph_walks.specs.Worlds.{Memory}
 use Rattle.graph_walks.specs.Walks.{Visible}
@@ -18,7 +17,7 @@ use Rattle.goal_solver.specs.Memos.{SolverState, Remembers, IsLight, IsSound}
 use Rattle.goal_solver.specs.Answers.{IsKnownAs, IsKept, IsAnswered, IsWeighed}
 use Rattle.graph_walks.proofs.Lists.{Origin, map_from}
 use Rattle.goal_solver.proofs.Sets.{if_ok_map, if_ok_at}
-use Rattle.goal_solver.proofs.Memory.{value, AreSound, sets_of, sound_of, yes_in, no_in, in_yes, in_no, light_in, in_light, more_yes, more_no, other_light, all_reached, is_light, is_hidden, union_right, light_union}
+use Rattle.goal_solver.proofs.Memory.{value, AreSound, sets_of, yes_in, no_in, in_yes, in_no, light_in, in_light, more_yes, more_no, other_light, all_reached, is_light, is_hidden, union_right, light_union}
 
 pub visible_at : (g : GraphTables) (way : List State) (q : State) → AreVisible g way → IsMet way q → Visible (world_of g) q.point (look q.goals)
 visible_at g way q v m = go (map_from state_of way (state_of q) m)

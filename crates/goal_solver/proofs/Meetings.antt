@@ -1,11 +1,11 @@
 -- Searches that meet more states.
-use Rattle.std.proofs.Common.{◌≡◌, ◌≢◌, ℕ, suc, zero, ◌+◌, ◌<◌, ◌≤◌, Bool, true, false, Some, None, Option, List, [], ◌∷◌, ◌++◌, map, length, get_or, take, refl, sym, ap, subst, ◌∙◌, arith, ◌⊎◌, inl, inr, IsTrue, slice_get, length-append}
+use Rattle.std.proofs.Common.{◌≡◌, ℕ, suc, zero, ◌+◌, ◌<◌, ◌≤◌, Bool, true, false, Some, List, [], ◌∷◌, ◌++◌, map, length, get_or, take, refl, sym, ap, subst, ◌∙◌, arith, ◌⊎◌, inl, inr, IsTrue, slice_get, length-append}
 use Rattle.std.specs.List.{Contains}
-use Rattle.std.proofs.lemmas.List.Elements.{Contains-append_left, Contains-append_right, Contains-append_cases, Contains-push, Contains-push_cases}
-use Rattle.std.proofs.lemmas.List.{map_push, map-append, take_more}
+use Rattle.std.proofs.lemmas.List.Elements.{Contains-append_left, Contains-push, Contains-push_cases}
+use Rattle.std.proofs.lemmas.List.{take_more}
 use Rattle.std.proofs.lemmas.Option.{slice_get-get_or}
 use Rattle.graph_walks.specs.Worlds.{Memory}
-use Rattle.graph_walks.proofs.Lists.{empty, first, only, got, stands, Stands, map_has, Origin, map_from}
+use Rattle.graph_walks.proofs.Lists.{empty, got, stands, Stands, map_has, Origin, map_from}
 use Rattle.goal_solver.specs.declared.state.State.{State}
 use Rattle.goal_solver.specs.declared.search.Search.{Search}
 use Rattle.goal_solver.specs.States.{state_of, IsMet, IsAdded, was_there, put_last}

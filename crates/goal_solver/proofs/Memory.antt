@@ -6,7 +6,7 @@ use Rattle.std.proofs.lemmas.List.Elements.{Contains-append_left, Contains-appen
 use Rattle.graph_walks.specs.Worlds as worlds
 use Rattle.graph_walks.specs.Worlds.{Memory, nothing}
 use Rattle.graph_walks.specs.Walks.{Visible}
-use Rattle.graph_walks.specs.Backs.{BackState, Reached, here, back, Heavy, RootReached}
+use Rattle.graph_walks.specs.Backs.{BackState, Reached, Heavy}
 use Rattle.graph_walks.specs.Growth.{IsWithin}
 use Rattle.graph_walks.proofs.Closure.{IsShut, has_reached, not_heavy, not_root}
 use Rattle.graph_walks.proofs.Growing.{visible_stays}
@@ -22,7 +22,7 @@ use Rattle.goal_solver.specs.Searches.{IsClosed, AreVisible, HaveNoRoot, IsWhole
 use Rattle.goal_solver.specs.Memos.{Remembered, Stretch, SolverState, Remembers, IsLight, state_count, IsSound, grown}
 use Rattle.goal_solver.specs.Answers.{IsKept}
 use Rattle.goal_solver.proofs.Ahead.{discrete}
-use Rattle.goal_solver.proofs.Meetings.{met_in, met_here}
+use Rattle.goal_solver.proofs.Meetings.{met_in}
 
 pub sound_new : (budget : ℕ) (g : GraphTables) → IsSound (record { budget = budget; memo = []; light = [] }) g
 sound_new budget g =

@@ -1,7 +1,7 @@
 -- A new shape, which no fact gives yet, changes no back state.
-use Rattle.std.proofs.Common.{◌≡◌, ℕ, ◌<◌, ◌++◌, ◌∷◌, [], Option, Some, None, length, slice_get, refl, sym, ap, subst, ◌∙◌, ◌⊎◌, inl, inr, arith}
+use Rattle.std.proofs.Common.{◌≡◌, ℕ, ◌<◌, ◌++◌, ◌∷◌, [], Option, Some, length, slice_get, sym, subst, ◌∙◌, ◌⊎◌}
 use Rattle.graph_walks.specs.Worlds as worlds
-use Rattle.graph_walks.specs.Worlds.{Memory, PassesBy, Gives}
+use Rattle.graph_walks.specs.Worlds.{Memory, PassesBy, FactGives}
 use Rattle.graph_walks.specs.Walks.{Visible}
 use Rattle.graph_walks.specs.Backs as backs
 use Rattle.graph_walks.specs.Backs.{Explains, unwanted, by_fact, Asks, asked, BackState, Reached, here, back, Heavy, RootReached}
@@ -11,14 +11,14 @@ use Rattle.flow_graph.specs.declared.edge.Truth.{Truth}
 use Rattle.typegraph.specs.Graphs.{GraphTables, with_shape}
 use Rattle.typegraph.specs.Validity.{IsValid}
 use Rattle.goal_solver.specs.Graphs.{world_of, truth_as}
-use Rattle.goal_solver.specs.Memos.{SolverState, Remembers, IsSound}
+use Rattle.goal_solver.specs.Memos.{SolverState, IsSound}
 use Rattle.goal_solver.proofs.Additions.{within_shape}
 use Rattle.goal_solver.proofs.Ahead.{discrete}
 use Rattle.goal_solver.proofs.Meetings.{at_left, Here, there}
 use Rattle.goal_solver.proofs.Tables.{FactHere, fact_here}
 
 module _ (g : GraphTables) (truth : Truth) (valid : IsValid g) where
-  is_there : (v s : ℕ) → Gives (world_of g) v s → s < length g.truths
+  is_there : (v s : ℕ) → FactGives (world_of g) v s → s < length g.truths
   is_there v s h = go (fact_here g h.point s h.source h.fact)
     where
       go : FactHere g h.point s h.source → s < length g.truths
@@ -35,7 +35,7 @@ module _ (g : GraphTables) (truth : Truth) (valid : IsValid g) where
   asks_back : (a : Option (worlds.Ask ℕ ℕ)) (p : Option (ℕ × ℕ)) → Asks (world_of (with_shape truth g)) a p → Asks (world_of g) a p
   asks_back a p backs.unasked = backs.unasked
   asks_back a p (asked b s k h) =
-      let given : Gives (world_of g) b.var s = record { point = h.point; source = h.source; target = h.target; fact = h.fact } in
+      let given : FactGives (world_of g) b.var s = record { point = h.point; source = h.source; target = h.target; fact = h.fact } in
       asked b s (passes_back b.test s (is_there b.var s given) k) given
 
   explains_back : (t : Option ℕ) (p : ℕ) (m h : Memory ℕ ℕ) → Explains (world_of (with_shape truth g)) t p m h → Explains (world_of g) t p m h

@@ -1,7 +1,6 @@
 -- What is met over an edge are exactly the back states over it.
-use Rattle.std.proofs.Common.{◌≡◌, ◌↔◌, ℕ, Bool, true, false, Option, Some, None, List, [], ◌∷◌, map, nat_eq, slice_get, refl, sym, ap, subst, ◌∙◌, arith, ◌⊎◌, inl, inr}
+use Rattle.std.proofs.Common.{◌≡◌, ◌↔◌, ℕ, true, Option, Some, None, List, [], map, nat_eq, slice_get, refl, sym, ap, subst, ◌∙◌, arith}
 use Rattle.std.specs.List.{Contains, filter}
-use Rattle.graph_walks.specs.Worlds as worlds
 use Rattle.graph_walks.specs.Worlds.{Memory, nothing, HasFact}
 use Rattle.graph_walks.specs.Backs.{Wanted, Explains, unwanted, by_fact, BackState}
 use Rattle.graph_walks.proofs.Lists.{empty, got, map_has, Origin, map_from, filter_keeps, filter_from}
@@ -17,10 +16,9 @@ use Rattle.typegraph.proofs.Looks.{equal, equal_as, look_finds, look_some}
 use Rattle.goal_solver.specs.declared.state.State.{State}
 use Rattle.goal_solver.specs.declared.search.Search.{Search}
 use Rattle.goal_solver.specs.Graphs.{edge_as, world_of}
-use Rattle.goal_solver.specs.States.{state_of}
-use Rattle.goal_solver.specs.Backs.{pair_of, AreAsked, wanted_list, FromSome, IsBefore, BySource, IsByPlace, ByFact, look_at, assigned_by, IsOverEdge, IsBackOf}
+use Rattle.goal_solver.specs.Backs.{pair_of, AreAsked, wanted_list, FromSome, BySource, ByFact, look_at, assigned_by, IsOverEdge, IsBackOf}
 use Rattle.goal_solver.specs.Searches.{IsKnown, AreKnown, AreBacksKnown}
-use Rattle.goal_solver.proofs.Tables.{FactHere, fact_here, fact_world, edge_world, EdgeHere, edge_here}
+use Rattle.goal_solver.proofs.Tables.{FactHere, fact_here, fact_world, EdgeHere, edge_here}
 use Rattle.goal_solver.proofs.Wanted.{TheWanted, wanted_from, wanted_to, joined_is, is_joined}
 
 once_empty : IsOnce []

@@ -3,7 +3,7 @@ use Rattle.std.proofs.Common.{◌≡◌, ℕ, suc, zero, ◌+◌, true, Option, 
 use Rattle.std.specs.List.{Contains, flat_map, filter}
 use Rattle.std.proofs.lemmas.List.Elements.{Contains-append_cases, Contains-append_left, Contains-append_right}
 use Rattle.graph_walks.specs.Worlds as worlds
-use Rattle.graph_walks.specs.Worlds.{Memory, PassesBy, HasFact, Gives}
+use Rattle.graph_walks.specs.Worlds.{Memory, PassesBy, HasFact, FactGives}
 use Rattle.graph_walks.specs.Backs as backs
 use Rattle.graph_walks.specs.Backs.{Asks, asked}
 use Rattle.graph_walks.proofs.Lists.{empty, only, first, got, Stands, stands, filter_keeps, filter_from, map_has, Origin, map_from, flat_map_has, Part, flat_map_from}
@@ -74,10 +74,10 @@ fact_here g p s source h =
 pub fact_world : (g : GraphTables) (p : ℕ) (f : Fact) → Contains (row_of (slice_get g.facts p)) f → HasFact (world_of g) p f.shape (look f.source)
 fact_world g p f c = let e : 0 + p ≡ p = omega arith in subst (λ k. Contains (facts_from 0 g.facts) (fact_as k f)) e (facts_to 0 g.facts p f c)
 
-pub gives_by_given : (g : GraphTables) (v s : ℕ) → IsGiven g v s → Gives (world_of g) v s
+pub gives_by_given : (g : GraphTables) (v s : ℕ) → IsGiven g v s → FactGives (world_of g) v s
 gives_by_given g v s i = record { point = i.point; source = look i.fact.source; target = i.target; fact = subst (λ t. HasFact (world_of g) i.point t (look i.fact.source)) i.shape_is (fact_world g i.point i.fact i.is) }
 
-pub given_by_gives : (g : GraphTables) (v s : ℕ) → Gives (world_of g) v s → IsGiven g v s
+pub given_by_gives : (g : GraphTables) (v s : ℕ) → FactGives (world_of g) v s → IsGiven g v s
 given_by_gives g v s h = let f : FactHere g h.point s h.source = fact_here g h.point s h.source h.fact in record { point = h.point; fact = f.fact; target = h.target; is = f.is; shape_is = f.shape }
 
 -- an edge of the world stands at its end

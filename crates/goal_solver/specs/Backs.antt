@@ -1,5 +1,5 @@
 -- The back states of a state, as the code comes to them.
-use Rattle.std.specs.Prelude.{◌≡◌, ℕ, Bool, true, false, not, cond, Option, Some, None, List, [], ◌∷◌, ◌++◌, nat_eq, slice_get}
+use Rattle.std.specs.Prelude.{◌≡◌, ℕ, Bool, true, false, not, cond, Option, Some, None, List, [], ◌++◌, nat_eq, slice_get}
 use Rattle.std.specs.List.{Contains, filter}
 use Rattle.std.specs.Option.{option_to_list}
 use Rattle.graph_walks.specs.Worlds as worlds
@@ -14,7 +14,7 @@ use Rattle.flow_graph.specs.Flows.{target_of}
 use Rattle.typegraph.specs.declared.fact.Fact.{Fact}
 use Rattle.typegraph.specs.declared.goals.Binding.{Binding}
 use Rattle.typegraph.specs.Maps.{look, IsJoined}
-use Rattle.typegraph.specs.Graphs.{GraphTables, row_of}
+use Rattle.typegraph.specs.Graphs.{GraphTables}
 use Rattle.goal_solver.specs.declared.state.State.{State}
 use Rattle.goal_solver.specs.Graphs.{world_of, ask_as, edge_as}
 

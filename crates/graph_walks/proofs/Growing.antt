@@ -1,7 +1,7 @@
 -- What holds of a query in a world holds in a world that has all of it.
 use Rattle.std.proofs.Common.{◌≡◌, ℕ, cond, Option, Some, None, inl, inr, sym, ap, subst, ◌∙◌}
 use Rattle.std.specs.List.{Contains}
-use Rattle.graph_walks.specs.Worlds.{Memory, Test, MayBeTrue, MayBeFalse, Is, Ask, Edge, World, PassesBy, assigned, Gives}
+use Rattle.graph_walks.specs.Worlds.{Memory, Test, MayBeTrue, MayBeFalse, Is, Ask, Edge, World, PassesBy, assigned, FactGives}
 use Rattle.graph_walks.specs.Walks.{Answers, unasked, passes, Comes, kept, made, Walk, start, step, Visible}
 use Rattle.graph_walks.specs.Backs as backs
 use Rattle.graph_walks.specs.Backs.{Wanted, Explains, unwanted, by_fact, Asks, asked, BackState, Reached, here, back, Heavy, Seen}
@@ -18,7 +18,7 @@ module _ {P V S : Type 0} (old new : World P V S) (grown : IsWithin old new) whe
   passes_on MayBeFalse s (inr h) = inr (grown.truths s _ h)
   passes_on (Is u) s h = h
 
-  pub gives_on : (v : V) (s : S) → Gives old v s → Gives new v s
+  pub gives_on : (v : V) (s : S) → FactGives old v s → FactGives new v s
   gives_on v s g = record { point = g.point; source = g.source; target = sym (grown.fact_targets _ g.fact) ∙ g.target; fact = grown.facts _ g.fact }
 
   comes_on : (e : Edge P V S) → Contains old.edges e → (m : Memory V S) (v : V) (s : S) → Comes old e m v s → Comes new e m v s

@@ -3,7 +3,7 @@ use Rattle.std.proofs.Common.{◌≡◌, ◌≢◌, ◌↔◌, ℕ, suc, zero, �
 use Rattle.std.specs.List.{All, AllPairs, Contains}
 use Rattle.std.proofs.lemmas.List.Elements.{All-head, All-tail, All-cons, All-nil}
 use Rattle.std.proofs.lemmas.Option.{some_pair_parts}
-use Rattle.graph_walks.specs.Worlds.{Memory, nothing, Within, Test, Ask, Edge, Fact, World, PassesBy, HasFact, assigned, Gives, AllGiven}
+use Rattle.graph_walks.specs.Worlds.{Memory, nothing, Within, Test, Ask, Edge, Fact, World, PassesBy, HasFact, assigned, FactGives, AllGiven}
 use Rattle.graph_walks.specs.Walks.{Answers, unasked, passes, Comes, kept, made, Walk, start, step, Visible}
 use Rattle.graph_walks.specs.Backs as backs
 use Rattle.graph_walks.specs.Backs.{Wanted, still, by_source, by_ask, Explains, unwanted, by_fact, Asks, asked, BackState, Reached, here, back, Heavy, Seen}
@@ -154,7 +154,7 @@ module _ {P V S P' V' S' : Type 0} (points : Names P P') (vars : Names V V') (sh
       let x : FactThere p s m = fact_there p s m h in
       subst (λ n. HasFact w' n s' (ren m)) (some_same (sym x.point_is ∙ i)) (subst (λ n. HasFact w' x.point n (ren m)) (some_same (sym x.shape_is ∙ j)) x.is)
 
-  gives_to : (v : V) (s : S) (v' : V') (s' : S') → vars.name v ≡ Some v' → shapes.name s ≡ Some s' → Gives w v s → Gives w' v' s'
+  gives_to : (v : V) (s : S) (v' : V') (s' : S') → vars.name v ≡ Some v' → shapes.name s ≡ Some s' → FactGives w v s → FactGives w' v' s'
   gives_to v s v' s' i j g =
       let x : FactThere g.point s g.source = fact_there g.point s g.source g.fact in
       let y : (u : V') × (vars.name v ≡ Some u) × (w'.target x.point ≡ Some u) = into.targets g.point x.point v x.point_is g.target in

@@ -1,6 +1,6 @@
 -- A query is visible exactly where a root with nothing wanted is reached from it.
 use Rattle.std.proofs.Common.{◌≡◌, ◌≢◌, ◌↔◌, ℕ, Bool, true, false, cond, Option, Some, None, ◌⊎◌, inl, inr, refl, sym, ap, subst, ◌∙◌}
-use Rattle.graph_walks.specs.Worlds.{Memory, nothing, Within, Ask, Edge, World, HasFact, assigned, Gives, AllGiven}
+use Rattle.graph_walks.specs.Worlds.{Memory, nothing, Within, Ask, Edge, World, HasFact, assigned, FactGives, AllGiven}
 use Rattle.graph_walks.specs.Walks.{Answers, unasked, passes, Comes, kept, made, Step, Walk, start, step, Visible}
 use Rattle.graph_walks.specs.Backs as backs
 use Rattle.graph_walks.specs.Backs.{Wanted, still, by_source, by_ask, Explains, unwanted, by_fact, Asks, asked, BackState, Reached, here, back, RootReached, Seen}
@@ -34,11 +34,11 @@ module _ {P V S : Type 0} (w : World P V S) where
       go true t h = h
       go false t h = none_is_some h
 
-  given_after : (e : Edge P V S) (m : Memory V S) (v : V) (s : S) → Comes w e m v s → (m v ≡ Some s → Gives w v s) → Gives w v s
+  given_after : (e : Edge P V S) (m : Memory V S) (v : V) (s : S) → Comes w e m v s → (m v ≡ Some s → FactGives w v s) → FactGives w v s
   given_after e m v s (kept n i) before = before i
   given_after e m v s (made a source f i) before = record { point = e.from; source = source; target = target_of e v a; fact = f }
 
-  given_in : {p : P} {m : Memory V S} → Walk w p m → (v : V) (s : S) → m v ≡ Some s → Gives w v s
+  given_in : {p : P} {m : Memory V S} → Walk w p m → (v : V) (s : S) → m v ≡ Some s → FactGives w v s
   given_in (start r) v s h = none_is_some h
   given_in (step {before} e k st) v s h = given_after e before v s (st.comes v s h) (given_in k v s)
 
@@ -156,7 +156,7 @@ module _ {P V S : Type 0} (w : World P V S) (same : Discrete V) where
       by_target None i = none (λ v h. none_is_some (sym i ∙ h))
       by_target (Some t) i = by_goal t i (g t) refl
 
-  pair_of : (a : Option (Ask V S)) (m : Memory V S) → Answers w a m → ((v : V) (s : S) → m v ≡ Some s → Gives w v s) → Pair a m
+  pair_of : (a : Option (Ask V S)) (m : Memory V S) → Answers w a m → ((v : V) (s : S) → m v ≡ Some s → FactGives w v s) → Pair a m
   pair_of None m unasked given = record { pair = None; asks = backs.unasked; within = λ v s h. none_is_some h }
   pair_of (Some a) m (passes s i p) given =
       record {
@@ -179,7 +179,7 @@ module _ {P V S : Type 0} (w : World P V S) (same : Discrete V) where
     is : BackState w e g before
     within : Within before m
 
-  step_back : (e : Edge P V S) (g m after : Memory V S) → Step w e m after → Within g after → ((v : V) (s : S) → m v ≡ Some s → Gives w v s) → StepBack e g m
+  step_back : (e : Edge P V S) (g m after : Memory V S) → Step w e m after → Within g after → ((v : V) (s : S) → m v ≡ Some s → FactGives w v s) → StepBack e g m
   unfolding Known
   step_back e g m after st i given =
       let comes : (v : V) (s : S) → g v ≡ Some s → Comes w e m v s = λ v s k. st.comes v s (i.at v s k) in

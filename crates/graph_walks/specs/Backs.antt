@@ -1,7 +1,7 @@
 -- The states that a query is explained by, going backwards: a state is a point and what is wanted there.
 use Rattle.std.specs.List.{All, AllPairs, Contains}
 use Rattle.std.specs.Prelude.{◌≡◌, ◌≢◌, ℕ, ◌+◌, Option, Some, None, List, length, IsTrue, ◌⊎◌, ◌↔◌}
-use Rattle.graph_walks.specs.Worlds.{Memory, nothing, Ask, Edge, World, PassesBy, HasFact, assigned, Gives, AllGiven}
+use Rattle.graph_walks.specs.Worlds.{Memory, nothing, Ask, Edge, World, PassesBy, HasFact, assigned, FactGives, AllGiven}
 use Rattle.graph_walks.specs.Walks.{Visible}
 
 -- the pairs wanted before an edge: those wanted after it but for the assigned variable's, the source set's, and the asked pair
@@ -19,7 +19,7 @@ module _ {P V S : Type 0} (w : World P V S) where
   -- the pair that an edge asks for: a shape that passes, among those that some fact gives the variable
   pub data Asks : Option (Ask V S) → Option (V × S) → Type 0 where
     unasked : Asks None None
-    asked : (a : Ask V S) (s : S) → PassesBy w.truth a.test s → Gives w a.var s → Asks (Some a) (Some (a.var, s))
+    asked : (a : Ask V S) (s : S) → PassesBy w.truth a.test s → FactGives w a.var s → Asks (Some a) (Some (a.var, s))
 
   -- (e.from, before) is a back state of (e.to, goals) over the edge e. There is none where two shapes are wanted of one variable
   pub record BackState (e : Edge P V S) (goals before : Memory V S) : Type 0 where

@@ -64,11 +64,11 @@ module _ {P V S : Type 0} (w : World P V S) where
   assigned e = cond e.assigns (w.target e.from) None
 
   -- some fact gives the variable the shape
-  pub record Gives (v : V) (s : S) : Type 0 where
+  pub record FactGives (v : V) (s : S) : Type 0 where
     pub point : P
     pub source : Memory V S
     pub target : w.target point ≡ Some v
     pub fact : HasFact point s source
 
   pub record AllGiven (goals : Memory V S) : Type 0 where
-    pub at : (v : V) (s : S) → goals v ≡ Some s → Gives v s
+    pub at : (v : V) (s : S) → goals v ≡ Some s → FactGives v s

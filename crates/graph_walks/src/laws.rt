@@ -1,6 +1,6 @@
 //! Laws of walks and back states.
 ghost use Rattle.std.specs.Prelude.{◌≡◌, ◌↔◌, ℕ, Some, IsTrue};
-ghost use Rattle.graph_walks.specs.Worlds.{Memory, Within, World, Gives, AllGiven};
+ghost use Rattle.graph_walks.specs.Worlds.{Memory, Within, World, FactGives, AllGiven};
 ghost use Rattle.graph_walks.specs.Walks.{Walk, Visible};
 ghost use Rattle.graph_walks.specs.Backs.{Reached, Heavy, RootReached, Seen};
 ghost use Rattle.graph_walks.specs.Growth.{IsWithin};

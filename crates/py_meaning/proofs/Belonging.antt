@@ -91,6 +91,12 @@ callable_has_function = refl
 callable_has_no_class : Has (object.class 0 [] ∷ []) (term.callable term.any) (ref 0) → ⊥
 callable_has_no_class h = h
 
+callable_has_no_stub_class : Has (object.foreign (object.stub_class (codes "m") (codes "K")) ∷ []) (term.callable term.any) (ref 0) → ⊥
+callable_has_no_stub_class h = cc
+
+callable_has_stub_function : Has (object.foreign (object.stub_fun (codes "m") (codes "f")) ∷ []) (term.callable term.any) (ref 0)
+callable_has_stub_function = refl
+
 -- ---- what is from outside
 
 outside_has_its_type : Has (object.outside (term.list term.bool) ∷ []) (term.list term.bool) (ref 0)
@@ -107,3 +113,24 @@ object_has_its_own = refl
 
 object_lacks_instances : Has (object.instance 0 [] ∷ []) (term.class (codes "object")) (ref 0) → ⊥
 object_lacks_instances h = cc
+
+outside_bools_are_ints : Has (object.outside (term.list term.bool) ∷ []) (term.list term.int) (ref 0)
+outside_bools_are_ints = refl
+
+outside_ints_are_no_bools : Has (object.outside (term.list term.int) ∷ []) (term.list term.bool) (ref 0) → ⊥
+outside_ints_are_no_bools h = cc
+
+abbrev int_and_str : Term
+int_and_str = term.tuple (terms_of (term.int ∷ term.str ∷ []))
+
+outside_tuple_has_its_places : Has (object.outside int_and_str ∷ []) int_and_str (ref 0)
+outside_tuple_has_its_places = refl
+
+outside_tuple_has_no_other_places : Has (object.outside int_and_str ∷ []) (term.tuple (terms_of (term.str ∷ term.int ∷ []))) (ref 0) → ⊥
+outside_tuple_has_no_other_places h = cc
+
+outside_places_are_of_any_length : Has (object.outside (term.tuple (terms_of (term.int ∷ term.int ∷ []))) ∷ []) (term.tuple_of term.int) (ref 0)
+outside_places_are_of_any_length = refl
+
+any_length_is_not_two : Has (object.outside (term.tuple_of term.int) ∷ []) (term.tuple (terms_of (term.int ∷ term.int ∷ []))) (ref 0) → ⊥
+any_length_is_not_two h = cc

@@ -8,8 +8,8 @@ use Rattle.py_tree.specs.Tree.{Module, Param, node, Exprs, no_exprs, expr, no_bo
 use Rattle.py_meaning.specs.Values.{none, whole, ref}
 use Rattle.py_meaning.specs.Objects as object
 use Rattle.py_meaning.specs.Events as event
-use Rattle.py_meaning.specs.Runs.{turns_within, answer, ended, raised_out, ran_out_of_turns, ran_out_of_choices, run}
-use Rattle.py_meaning.proofs.Samples.{param}
+use Rattle.py_meaning.specs.Runs.{turns_within, answer, ended, raised_out, ran_out_of_turns, ran_out_of_choices}
+use Rattle.py_meaning.proofs.Samples.{answered, param}
 use Rattle.py_meaning.proofs.Samples.{native, error, anything}
 
 -- a default is a constant, whatever was called before
@@ -23,12 +23,14 @@ evaluates_a_default_once_module = record {
   names = codes "f" ∷ codes "a" ∷ codes "x" ∷ codes "y" ∷ [];
 }
 
-evaluates_a_default_once : run evaluates_a_default_once_module [] 2 (0 ∷ 0 ∷ 0 ∷ 0 ∷ 0 ∷ 0 ∷ []) ([]) ≡ record {
+evaluates_a_default_once : answered evaluates_a_default_once_module [] 2 (0 ∷ 0 ∷ 0 ∷ 0 ∷ 0 ∷ 0 ∷ []) ([]) ≡ record {
   events = event.returned 0 (whole (pos 1)) ∷ event.returned 0 (whole (pos 2)) ∷ event.held 2 (whole (pos 1)) ∷ event.held 3 (whole (pos 2)) ∷ [];
   heap = object.function 0 ∷ [];
   ending = ended;
+  choices = [];
+  turns = 0;
 }
-unfolding run answer turns_within
+unfolding answer turns_within
 evaluates_a_default_once = refl
 
 --     def f(a=-1):
@@ -40,12 +42,14 @@ defaults_to_a_negative_number_module = record {
   names = codes "f" ∷ codes "a" ∷ codes "x" ∷ [];
 }
 
-defaults_to_a_negative_number : run defaults_to_a_negative_number_module [] 1 (0 ∷ 0 ∷ 0 ∷ []) ([]) ≡ record {
+defaults_to_a_negative_number : answered defaults_to_a_negative_number_module [] 1 (0 ∷ 0 ∷ 0 ∷ []) ([]) ≡ record {
   events = event.returned 0 (whole (negsuc 0)) ∷ event.held 2 (whole (negsuc 0)) ∷ [];
   heap = object.function 0 ∷ [];
   ending = ended;
+  choices = [];
+  turns = 0;
 }
-unfolding run answer turns_within
+unfolding answer turns_within
 defaults_to_a_negative_number = refl
 
 --     def f():
@@ -57,12 +61,14 @@ returns_none_at_the_end_module = record {
   names = codes "f" ∷ codes "x" ∷ [];
 }
 
-returns_none_at_the_end : run returns_none_at_the_end_module [] 1 (0 ∷ 0 ∷ []) ([]) ≡ record {
+returns_none_at_the_end : answered returns_none_at_the_end_module [] 1 (0 ∷ 0 ∷ []) ([]) ≡ record {
   events = event.returned 0 none ∷ event.held 1 none ∷ [];
   heap = object.function 0 ∷ [];
   ending = ended;
+  choices = [];
+  turns = 0;
 }
-unfolding run answer turns_within
+unfolding answer turns_within
 returns_none_at_the_end = refl
 
 --     def f(a, b, c=3):
@@ -74,12 +80,14 @@ binds_by_keyword_module = record {
   names = codes "f" ∷ codes "a" ∷ codes "b" ∷ codes "c" ∷ codes "x" ∷ [];
 }
 
-binds_by_keyword : run binds_by_keyword_module [] 1 (0 ∷ 0 ∷ 0 ∷ []) ([]) ≡ record {
+binds_by_keyword : answered binds_by_keyword_module [] 1 (0 ∷ 0 ∷ 0 ∷ []) ([]) ≡ record {
   events = event.returned 0 (whole (pos 2)) ∷ event.held 4 (whole (pos 2)) ∷ [];
   heap = object.function 0 ∷ [];
   ending = ended;
+  choices = [];
+  turns = 0;
 }
-unfolding run answer turns_within
+unfolding answer turns_within
 binds_by_keyword = refl
 
 --     def f(a, b=0):
@@ -91,12 +99,14 @@ gives_too_many_module = record {
   names = codes "f" ∷ codes "a" ∷ codes "b" ∷ [];
 }
 
-gives_too_many : run gives_too_many_module [] 1 (0 ∷ 0 ∷ []) ([]) ≡ record {
+gives_too_many : answered gives_too_many_module [] 1 (0 ∷ 0 ∷ []) ([]) ≡ record {
   events = event.fault 3 event.wrong_arg_count event.on_another None ∷ [];
   heap = object.function 0 ∷ error (codes "TypeError") ∷ [];
   ending = raised_out (ref 1);
+  choices = [];
+  turns = 0;
 }
-unfolding run answer turns_within
+unfolding answer turns_within
 gives_too_many = refl
 
 --     def f(a, b=0):
@@ -108,12 +118,14 @@ gives_too_few_module = record {
   names = codes "f" ∷ codes "a" ∷ codes "b" ∷ [];
 }
 
-gives_too_few : run gives_too_few_module [] 1 (0 ∷ 0 ∷ []) ([]) ≡ record {
+gives_too_few : answered gives_too_few_module [] 1 (0 ∷ 0 ∷ []) ([]) ≡ record {
   events = event.fault 3 event.missing_parameter event.on_another None ∷ [];
   heap = object.function 0 ∷ error (codes "TypeError") ∷ [];
   ending = raised_out (ref 1);
+  choices = [];
+  turns = 0;
 }
-unfolding run answer turns_within
+unfolding answer turns_within
 gives_too_few = refl
 
 --     def f(a, b=0):
@@ -125,12 +137,14 @@ gives_an_unknown_keyword_module = record {
   names = codes "f" ∷ codes "a" ∷ codes "b" ∷ codes "c" ∷ [];
 }
 
-gives_an_unknown_keyword : run gives_an_unknown_keyword_module [] 1 (0 ∷ 0 ∷ []) ([]) ≡ record {
+gives_an_unknown_keyword : answered gives_an_unknown_keyword_module [] 1 (0 ∷ 0 ∷ []) ([]) ≡ record {
   events = event.fault 3 event.wrong_keyword_args event.on_another None ∷ [];
   heap = object.function 0 ∷ error (codes "TypeError") ∷ [];
   ending = raised_out (ref 1);
+  choices = [];
+  turns = 0;
 }
-unfolding run answer turns_within
+unfolding answer turns_within
 gives_an_unknown_keyword = refl
 
 --     def f(a, b=0):
@@ -142,12 +156,14 @@ gives_a_parameter_twice_module = record {
   names = codes "f" ∷ codes "a" ∷ codes "b" ∷ [];
 }
 
-gives_a_parameter_twice : run gives_a_parameter_twice_module [] 1 (0 ∷ 0 ∷ []) ([]) ≡ record {
+gives_a_parameter_twice : answered gives_a_parameter_twice_module [] 1 (0 ∷ 0 ∷ []) ([]) ≡ record {
   events = event.fault 3 event.duplicate_keyword event.on_another None ∷ [];
   heap = object.function 0 ∷ error (codes "TypeError") ∷ [];
   ending = raised_out (ref 1);
+  choices = [];
+  turns = 0;
 }
-unfolding run answer turns_within
+unfolding answer turns_within
 gives_a_parameter_twice = refl
 
 --     x = 1
@@ -158,12 +174,14 @@ calls_a_number_module = record {
   names = codes "x" ∷ [];
 }
 
-calls_a_number : run calls_a_number_module [] 1 (0 ∷ 0 ∷ []) ([]) ≡ record {
+calls_a_number : answered calls_a_number_module [] 1 (0 ∷ 0 ∷ []) ([]) ≡ record {
   events = event.fault 2 event.not_callable event.on_another None ∷ [];
   heap = error (codes "TypeError") ∷ [];
   ending = raised_out (ref 0);
+  choices = [];
+  turns = 0;
 }
-unfolding run answer turns_within
+unfolding answer turns_within
 calls_a_number = refl
 
 --     x = 1
@@ -174,12 +192,14 @@ begins_a_turn_before_the_fault_module = record {
   names = codes "x" ∷ [];
 }
 
-begins_a_turn_before_the_fault : run begins_a_turn_before_the_fault_module [] 0 (0 ∷ 0 ∷ []) ([]) ≡ record {
+begins_a_turn_before_the_fault : answered begins_a_turn_before_the_fault_module [] 0 (0 ∷ 0 ∷ []) ([]) ≡ record {
   events = [];
   heap = [];
   ending = ran_out_of_turns;
+  choices = 0 ∷ [];
+  turns = 0;
 }
-unfolding run answer turns_within
+unfolding answer turns_within
 begins_a_turn_before_the_fault = refl
 
 --     def f(n):
@@ -191,12 +211,14 @@ recurs_too_deep_module = record {
   names = codes "f" ∷ codes "n" ∷ [];
 }
 
-recurs_too_deep : run recurs_too_deep_module [] 3 (0 ∷ 0 ∷ 0 ∷ 0 ∷ 0 ∷ 0 ∷ 0 ∷ 0 ∷ 0 ∷ 0 ∷ 0 ∷ 0 ∷ 0 ∷ 0 ∷ 0 ∷ 0 ∷ 0 ∷ 0 ∷ 0 ∷ 0 ∷ []) ([]) ≡ record {
+recurs_too_deep : answered recurs_too_deep_module [] 3 (0 ∷ 0 ∷ 0 ∷ 0 ∷ 0 ∷ 0 ∷ 0 ∷ 0 ∷ 0 ∷ 0 ∷ 0 ∷ 0 ∷ 0 ∷ 0 ∷ 0 ∷ 0 ∷ 0 ∷ 0 ∷ 0 ∷ 0 ∷ []) ([]) ≡ record {
   events = [];
   heap = object.function 0 ∷ [];
   ending = ran_out_of_turns;
+  choices = 0 ∷ 0 ∷ 0 ∷ 0 ∷ 0 ∷ 0 ∷ 0 ∷ 0 ∷ 0 ∷ 0 ∷ [];
+  turns = 0;
 }
-unfolding run answer turns_within
+unfolding answer turns_within
 recurs_too_deep = refl
 
 --     def f(n):
@@ -208,12 +230,14 @@ runs_out_of_choices_in_a_call_module = record {
   names = codes "f" ∷ codes "n" ∷ [];
 }
 
-runs_out_of_choices_in_a_call : run runs_out_of_choices_in_a_call_module [] 1 (0 ∷ 0 ∷ 0 ∷ []) ([]) ≡ record {
+runs_out_of_choices_in_a_call : answered runs_out_of_choices_in_a_call_module [] 1 (0 ∷ 0 ∷ 0 ∷ []) ([]) ≡ record {
   events = [];
   heap = object.function 0 ∷ [];
   ending = ran_out_of_choices;
+  choices = [];
+  turns = 0;
 }
-unfolding run answer turns_within
+unfolding answer turns_within
 runs_out_of_choices_in_a_call = refl
 
 --     def f(n):
@@ -227,12 +251,14 @@ recurs_module = record {
   names = codes "f" ∷ codes "n" ∷ codes "x" ∷ [];
 }
 
-recurs : run recurs_module [] 2 (0 ∷ 0 ∷ 0 ∷ 0 ∷ 0 ∷ 0 ∷ 0 ∷ []) ([]) ≡ record {
+recurs : answered recurs_module [] 2 (0 ∷ 0 ∷ 0 ∷ 0 ∷ 0 ∷ 0 ∷ 0 ∷ []) ([]) ≡ record {
   events = event.returned 0 (whole (pos 0)) ∷ event.returned 0 (whole (pos 0)) ∷ event.held 2 (whole (pos 0)) ∷ [];
   heap = object.function 0 ∷ [];
   ending = ended;
+  choices = [];
+  turns = 0;
 }
-unfolding run answer turns_within
+unfolding answer turns_within
 recurs = refl
 
 -- raised in a called function, and caught two calls up
@@ -250,12 +276,14 @@ raises_through_two_calls_module = record {
   names = codes "f" ∷ codes "ValueError" ∷ codes "g" ∷ codes "x" ∷ [];
 }
 
-raises_through_two_calls : run raises_through_two_calls_module [] 3 (0 ∷ 0 ∷ 0 ∷ 0 ∷ 0 ∷ 0 ∷ 0 ∷ 0 ∷ 0 ∷ []) ([]) ≡ record {
+raises_through_two_calls : answered raises_through_two_calls_module [] 3 (0 ∷ 0 ∷ 0 ∷ 0 ∷ 0 ∷ 0 ∷ 0 ∷ 0 ∷ 0 ∷ []) ([]) ≡ record {
   events = event.held 3 (whole (pos 1)) ∷ [];
   heap = object.function 0 ∷ object.function 1 ∷ native (codes "ValueError") ∷ error (codes "ValueError") ∷ native (codes "ValueError") ∷ [];
   ending = ended;
+  choices = [];
+  turns = 0;
 }
-unfolding run answer turns_within
+unfolding answer turns_within
 raises_through_two_calls = refl
 
 --     x = 1
@@ -270,12 +298,14 @@ has_locals_of_its_own_module = record {
   names = codes "x" ∷ codes "f" ∷ codes "a" ∷ codes "y" ∷ codes "z" ∷ [];
 }
 
-has_locals_of_its_own : run has_locals_of_its_own_module [] 1 (0 ∷ 0 ∷ 0 ∷ 0 ∷ 0 ∷ []) ([]) ≡ record {
+has_locals_of_its_own : answered has_locals_of_its_own_module [] 1 (0 ∷ 0 ∷ 0 ∷ 0 ∷ 0 ∷ []) ([]) ≡ record {
   events = event.returned 0 (whole (pos 2)) ∷ event.held 0 (whole (pos 1)) ∷ event.held 3 (whole (pos 2)) ∷ event.held 4 (whole (pos 1)) ∷ [];
   heap = object.function 0 ∷ [];
   ending = ended;
+  choices = [];
+  turns = 0;
 }
-unfolding run answer turns_within
+unfolding answer turns_within
 has_locals_of_its_own = refl
 
 --     x = 1
@@ -289,12 +319,14 @@ reads_a_global_module = record {
   names = codes "x" ∷ codes "f" ∷ codes "y" ∷ [];
 }
 
-reads_a_global : run reads_a_global_module [] 1 (0 ∷ 0 ∷ 0 ∷ []) ([]) ≡ record {
+reads_a_global : answered reads_a_global_module [] 1 (0 ∷ 0 ∷ 0 ∷ []) ([]) ≡ record {
   events = event.returned 0 (whole (pos 2)) ∷ event.held 0 (whole (pos 2)) ∷ event.held 2 (whole (pos 2)) ∷ [];
   heap = object.function 0 ∷ [];
   ending = ended;
+  choices = [];
+  turns = 0;
 }
-unfolding run answer turns_within
+unfolding answer turns_within
 reads_a_global = refl
 
 -- a name that the body binds anywhere is local to all of it
@@ -309,12 +341,14 @@ reads_a_local_without_value_module = record {
   names = codes "x" ∷ codes "f" ∷ codes "y" ∷ [];
 }
 
-reads_a_local_without_value : run reads_a_local_without_value_module [] 1 (0 ∷ 0 ∷ 0 ∷ []) ([]) ≡ record {
+reads_a_local_without_value : answered reads_a_local_without_value_module [] 1 (0 ∷ 0 ∷ 0 ∷ []) ([]) ≡ record {
   events = [];
   heap = object.function 0 ∷ error (codes "UnboundLocalError") ∷ [];
   ending = raised_out (ref 1);
+  choices = [];
+  turns = 0;
 }
-unfolding run answer turns_within
+unfolding answer turns_within
 reads_a_local_without_value = refl
 
 --     def f():
@@ -329,12 +363,14 @@ keeps_a_name_of_a_clause_local_module = record {
   names = codes "f" ∷ codes "KeyError" ∷ codes "e" ∷ codes "x" ∷ [];
 }
 
-keeps_a_name_of_a_clause_local : run keeps_a_name_of_a_clause_local_module [] 2 (0 ∷ 0 ∷ 0 ∷ 0 ∷ 0 ∷ 0 ∷ 0 ∷ []) ([]) ≡ record {
+keeps_a_name_of_a_clause_local : answered keeps_a_name_of_a_clause_local_module [] 2 (0 ∷ 0 ∷ 0 ∷ 0 ∷ 0 ∷ 0 ∷ 0 ∷ []) ([]) ≡ record {
   events = event.returned 0 (whole (pos 1)) ∷ event.held 3 (whole (pos 1)) ∷ [];
   heap = object.function 0 ∷ native (codes "KeyError") ∷ error (codes "KeyError") ∷ native (codes "KeyError") ∷ [];
   ending = ended;
+  choices = [];
+  turns = 0;
 }
-unfolding run answer turns_within
+unfolding answer turns_within
 keeps_a_name_of_a_clause_local = refl
 
 --     def f(xs):
@@ -347,12 +383,14 @@ returns_out_of_a_loop_module = record {
   names = codes "f" ∷ codes "xs" ∷ codes "x" ∷ codes "y" ∷ [];
 }
 
-returns_out_of_a_loop : run returns_out_of_a_loop_module [] 2 (0 ∷ 0 ∷ 0 ∷ 0 ∷ 0 ∷ 0 ∷ []) ([]) ≡ record {
+returns_out_of_a_loop : answered returns_out_of_a_loop_module [] 2 (0 ∷ 0 ∷ 0 ∷ 0 ∷ 0 ∷ 0 ∷ []) ([]) ≡ record {
   events = event.returned 0 (whole (pos 7)) ∷ event.held 3 (whole (pos 7)) ∷ [];
   heap = object.function 0 ∷ object.tuple 6 object.places ((whole (pos 7)) ∷ []) ∷ [];
   ending = ended;
+  choices = [];
+  turns = 0;
 }
-unfolding run answer turns_within
+unfolding answer turns_within
 returns_out_of_a_loop = refl
 
 --     x = 1
@@ -363,12 +401,14 @@ reads_an_attribute_of_a_number_module = record {
   names = codes "x" ∷ codes "y" ∷ codes "foo" ∷ [];
 }
 
-reads_an_attribute_of_a_number : run reads_an_attribute_of_a_number_module [] 0 (0 ∷ 0 ∷ []) ([]) ≡ record {
+reads_an_attribute_of_a_number : answered reads_an_attribute_of_a_number_module [] 0 (0 ∷ 0 ∷ []) ([]) ≡ record {
   events = event.fault 2 event.attribute_error event.on_another (Some 2) ∷ [];
   heap = error (codes "AttributeError") ∷ [];
   ending = raised_out (ref 0);
+  choices = [];
+  turns = 0;
 }
-unfolding run answer turns_within
+unfolding answer turns_within
 reads_an_attribute_of_a_number = refl
 
 --     def f():
@@ -380,12 +420,14 @@ stores_an_attribute_of_a_function_module = record {
   names = codes "f" ∷ codes "a" ∷ [];
 }
 
-stores_an_attribute_of_a_function : run stores_an_attribute_of_a_function_module [] 0 (0 ∷ 0 ∷ []) ([]) ≡ record {
+stores_an_attribute_of_a_function : answered stores_an_attribute_of_a_function_module [] 0 (0 ∷ 0 ∷ []) ([]) ≡ record {
   events = event.fault 3 event.attribute_error event.on_another (Some 1) ∷ [];
   heap = object.function 0 ∷ error (codes "AttributeError") ∷ [];
   ending = raised_out (ref 1);
+  choices = [];
+  turns = 0;
 }
-unfolding run answer turns_within
+unfolding answer turns_within
 stores_an_attribute_of_a_function = refl
 
 -- a store into what is outside is forgotten
@@ -396,12 +438,14 @@ stores_an_attribute_of_anything_module = record {
   names = codes "nope" ∷ codes "a" ∷ [];
 }
 
-stores_an_attribute_of_anything : run stores_an_attribute_of_anything_module [] 0 (0 ∷ 0 ∷ []) ([]) ≡ record {
+stores_an_attribute_of_anything : answered stores_an_attribute_of_anything_module [] 0 (0 ∷ 0 ∷ []) ([]) ≡ record {
   events = [];
   heap = anything ∷ [];
   ending = ended;
+  choices = [];
+  turns = 0;
 }
-unfolding run answer turns_within
+unfolding answer turns_within
 stores_an_attribute_of_anything = refl
 
 -- the class call and its `__init__` are one turn
@@ -416,12 +460,14 @@ makes_an_instance_module = record {
   names = codes "C" ∷ codes "__init__" ∷ codes "self" ∷ codes "v" ∷ codes "c" ∷ codes "p" ∷ [];
 }
 
-makes_an_instance : run makes_an_instance_module [] 1 (0 ∷ 0 ∷ 0 ∷ 0 ∷ 0 ∷ 0 ∷ 0 ∷ []) ([]) ≡ record {
+makes_an_instance : answered makes_an_instance_module [] 1 (0 ∷ 0 ∷ 0 ∷ 0 ∷ 0 ∷ 0 ∷ 0 ∷ []) ([]) ≡ record {
   events = event.returned 0 none ∷ event.held 4 (ref 2) ∷ event.held 5 (whole (pos 1)) ∷ [];
   heap = object.class 0 ((1, (ref 1)) ∷ []) ∷ object.function 0 ∷ object.instance 0 ((3, (whole (pos 1))) ∷ []) ∷ [];
   ending = ended;
+  choices = [];
+  turns = 0;
 }
-unfolding run answer turns_within
+unfolding answer turns_within
 makes_an_instance = refl
 
 --     class C:
@@ -435,12 +481,14 @@ reads_a_member_of_a_class_module = record {
   names = codes "C" ∷ codes "limit" ∷ codes "x" ∷ codes "c" ∷ codes "y" ∷ [];
 }
 
-reads_a_member_of_a_class : run reads_a_member_of_a_class_module [] 1 (0 ∷ 0 ∷ 0 ∷ 0 ∷ 0 ∷ 0 ∷ []) ([]) ≡ record {
+reads_a_member_of_a_class : answered reads_a_member_of_a_class_module [] 1 (0 ∷ 0 ∷ 0 ∷ 0 ∷ 0 ∷ 0 ∷ []) ([]) ≡ record {
   events = event.held 3 (ref 1) ∷ event.held 2 (whole (pos 5)) ∷ event.held 4 (whole (pos 5)) ∷ [];
   heap = object.class 0 ((1, (whole (pos 5))) ∷ []) ∷ object.instance 0 ([]) ∷ [];
   ending = ended;
+  choices = [];
+  turns = 0;
 }
-unfolding run answer turns_within
+unfolding answer turns_within
 reads_a_member_of_a_class = refl
 
 --     class C:
@@ -452,12 +500,14 @@ reads_a_member_that_a_class_lacks_module = record {
   names = codes "C" ∷ codes "limit" ∷ codes "y" ∷ codes "none" ∷ [];
 }
 
-reads_a_member_that_a_class_lacks : run reads_a_member_that_a_class_lacks_module [] 0 (0 ∷ 0 ∷ []) ([]) ≡ record {
+reads_a_member_that_a_class_lacks : answered reads_a_member_that_a_class_lacks_module [] 0 (0 ∷ 0 ∷ []) ([]) ≡ record {
   events = event.fault 3 event.attribute_error (event.on_class 0) (Some 3) ∷ [];
   heap = object.class 0 ((1, (whole (pos 5))) ∷ []) ∷ error (codes "AttributeError") ∷ [];
   ending = raised_out (ref 1);
+  choices = [];
+  turns = 0;
 }
-unfolding run answer turns_within
+unfolding answer turns_within
 reads_a_member_that_a_class_lacks = refl
 
 --     class C:
@@ -469,12 +519,14 @@ gives_an_argument_to_a_plain_class_module = record {
   names = codes "C" ∷ [];
 }
 
-gives_an_argument_to_a_plain_class : run gives_an_argument_to_a_plain_class_module [] 1 (0 ∷ 0 ∷ []) ([]) ≡ record {
+gives_an_argument_to_a_plain_class : answered gives_an_argument_to_a_plain_class_module [] 1 (0 ∷ 0 ∷ []) ([]) ≡ record {
   events = event.fault 3 event.wrong_arg_count event.on_another None ∷ [];
   heap = object.class 0 ([]) ∷ error (codes "TypeError") ∷ [];
   ending = raised_out (ref 1);
+  choices = [];
+  turns = 0;
 }
-unfolding run answer turns_within
+unfolding answer turns_within
 gives_an_argument_to_a_plain_class = refl
 
 --     class C:
@@ -490,12 +542,14 @@ has_an_attribute_on_one_path_module = record {
   names = codes "C" ∷ codes "put" ∷ codes "self" ∷ codes "n" ∷ codes "v" ∷ codes "c" ∷ codes "x" ∷ [];
 }
 
-has_an_attribute_on_one_path : run has_an_attribute_on_one_path_module [] 2 (0 ∷ 0 ∷ 0 ∷ 0 ∷ 0 ∷ 0 ∷ 0 ∷ 0 ∷ []) ([]) ≡ record {
+has_an_attribute_on_one_path : answered has_an_attribute_on_one_path_module [] 2 (0 ∷ 0 ∷ 0 ∷ 0 ∷ 0 ∷ 0 ∷ 0 ∷ 0 ∷ []) ([]) ≡ record {
   events = event.returned 0 none ∷ event.fault 7 event.attribute_error (event.on_instance 0) (Some 4) ∷ [];
   heap = object.class 0 ((1, (ref 1)) ∷ []) ∷ object.function 0 ∷ object.instance 0 ([]) ∷ object.bound (ref 2) 0 ∷ error (codes "AttributeError") ∷ [];
   ending = raised_out (ref 4);
+  choices = [];
+  turns = 0;
 }
-unfolding run answer turns_within
+unfolding answer turns_within
 has_an_attribute_on_one_path = refl
 
 --     class C:
@@ -510,12 +564,14 @@ keeps_a_bound_method_in_a_list_module = record {
   names = codes "C" ∷ codes "get" ∷ codes "self" ∷ codes "c" ∷ codes "ms" ∷ codes "x" ∷ [];
 }
 
-keeps_a_bound_method_in_a_list : run keeps_a_bound_method_in_a_list_module [] 2 (0 ∷ 0 ∷ 0 ∷ 0 ∷ 0 ∷ 0 ∷ 0 ∷ 0 ∷ []) ([]) ≡ record {
+keeps_a_bound_method_in_a_list : answered keeps_a_bound_method_in_a_list_module [] 2 (0 ∷ 0 ∷ 0 ∷ 0 ∷ 0 ∷ 0 ∷ 0 ∷ 0 ∷ []) ([]) ≡ record {
   events = event.returned 0 (ref 2) ∷ event.held 3 (ref 2) ∷ event.held 4 (ref 4) ∷ event.held 5 (ref 2) ∷ [];
   heap = object.class 0 ((1, (ref 1)) ∷ []) ∷ object.function 0 ∷ object.instance 0 ([]) ∷ object.bound (ref 2) 0 ∷ object.list 7 ((ref 3) ∷ []) ∷ [];
   ending = ended;
+  choices = [];
+  turns = 0;
 }
-unfolding run answer turns_within
+unfolding answer turns_within
 keeps_a_bound_method_in_a_list = refl
 
 -- only what is found in a class is bound
@@ -532,12 +588,14 @@ does_not_bind_a_function_of_an_instance_module = record {
   names = codes "C" ∷ codes "f" ∷ codes "a" ∷ codes "c" ∷ codes "x" ∷ [];
 }
 
-does_not_bind_a_function_of_an_instance : run does_not_bind_a_function_of_an_instance_module [] 2 (0 ∷ 0 ∷ 0 ∷ 0 ∷ 0 ∷ 0 ∷ 0 ∷ 0 ∷ 0 ∷ []) ([]) ≡ record {
+does_not_bind_a_function_of_an_instance : answered does_not_bind_a_function_of_an_instance_module [] 2 (0 ∷ 0 ∷ 0 ∷ 0 ∷ 0 ∷ 0 ∷ 0 ∷ 0 ∷ 0 ∷ []) ([]) ≡ record {
   events = event.returned 0 (whole (pos 3)) ∷ event.held 3 (ref 2) ∷ event.held 4 (whole (pos 3)) ∷ [];
   heap = object.class 0 ([]) ∷ object.function 0 ∷ object.instance 0 ((1, (ref 1)) ∷ []) ∷ [];
   ending = ended;
+  choices = [];
+  turns = 0;
 }
-unfolding run answer turns_within
+unfolding answer turns_within
 does_not_bind_a_function_of_an_instance = refl
 
 --     class C:
@@ -551,12 +609,14 @@ stores_a_member_later_module = record {
   names = codes "C" ∷ codes "c" ∷ codes "n" ∷ codes "x" ∷ [];
 }
 
-stores_a_member_later : run stores_a_member_later_module [] 1 (0 ∷ 0 ∷ 0 ∷ 0 ∷ 0 ∷ 0 ∷ []) ([]) ≡ record {
+stores_a_member_later : answered stores_a_member_later_module [] 1 (0 ∷ 0 ∷ 0 ∷ 0 ∷ 0 ∷ 0 ∷ []) ([]) ≡ record {
   events = event.held 1 (ref 1) ∷ event.held 3 (whole (pos 4)) ∷ [];
   heap = object.class 0 ((2, (whole (pos 4))) ∷ []) ∷ object.instance 0 ([]) ∷ [];
   ending = ended;
+  choices = [];
+  turns = 0;
 }
-unfolding run answer turns_within
+unfolding answer turns_within
 stores_a_member_later = refl
 
 --     class B:
@@ -573,12 +633,14 @@ calls_the_init_above_module = record {
   names = codes "B" ∷ codes "__init__" ∷ codes "self" ∷ codes "x" ∷ codes "C" ∷ codes "super" ∷ codes "c" ∷ codes "y" ∷ [];
 }
 
-calls_the_init_above : run calls_the_init_above_module [] 2 (0 ∷ 0 ∷ 0 ∷ 0 ∷ 0 ∷ 0 ∷ 0 ∷ 0 ∷ 0 ∷ []) ([]) ≡ record {
+calls_the_init_above : answered calls_the_init_above_module [] 2 (0 ∷ 0 ∷ 0 ∷ 0 ∷ 0 ∷ 0 ∷ 0 ∷ 0 ∷ 0 ∷ []) ([]) ≡ record {
   events = event.returned 0 none ∷ event.returned 1 none ∷ event.held 6 (ref 4) ∷ event.held 7 (whole (pos 1)) ∷ [];
   heap = object.class 0 ((1, (ref 1)) ∷ []) ∷ object.function 0 ∷ object.class 1 ((1, (ref 3)) ∷ []) ∷ object.function 1 ∷ object.instance 1 ((3, (whole (pos 1))) ∷ []) ∷ object.bound (ref 4) 0 ∷ [];
   ending = ended;
+  choices = [];
+  turns = 0;
 }
-unfolding run answer turns_within
+unfolding answer turns_within
 calls_the_init_above = refl
 
 --     class E(Exception):
@@ -592,12 +654,14 @@ calls_the_init_of_no_class_above_module = record {
   names = codes "E" ∷ codes "Exception" ∷ codes "__init__" ∷ codes "self" ∷ codes "n" ∷ codes "super" ∷ codes "e" ∷ codes "x" ∷ codes "args" ∷ [];
 }
 
-calls_the_init_of_no_class_above : run calls_the_init_of_no_class_above_module [] 2 (0 ∷ 0 ∷ 0 ∷ 0 ∷ 0 ∷ 0 ∷ 0 ∷ []) ([]) ≡ record {
+calls_the_init_of_no_class_above : answered calls_the_init_of_no_class_above_module [] 2 (0 ∷ 0 ∷ 0 ∷ 0 ∷ 0 ∷ 0 ∷ 0 ∷ []) ([]) ≡ record {
   events = event.returned 0 none ∷ event.held 6 (ref 2) ∷ event.held 7 (ref 4) ∷ [];
   heap = object.class 0 ((2, (ref 1)) ∷ []) ∷ object.function 0 ∷ object.instance 0 ([]) ∷ native (codes "base_init") ∷ object.outside (term.tuple_of term.any) ∷ [];
   ending = ended;
+  choices = [];
+  turns = 0;
 }
-unfolding run answer turns_within
+unfolding answer turns_within
 calls_the_init_of_no_class_above = refl
 
 --     class B:
@@ -612,12 +676,14 @@ looks_above_for_what_is_not_there_module = record {
   names = codes "B" ∷ codes "C" ∷ codes "f" ∷ codes "self" ∷ codes "super" ∷ codes "g" ∷ [];
 }
 
-looks_above_for_what_is_not_there : run looks_above_for_what_is_not_there_module [] 2 (0 ∷ 0 ∷ 0 ∷ 0 ∷ 0 ∷ []) ([]) ≡ record {
+looks_above_for_what_is_not_there : answered looks_above_for_what_is_not_there_module [] 2 (0 ∷ 0 ∷ 0 ∷ 0 ∷ 0 ∷ []) ([]) ≡ record {
   events = event.fault 5 event.attribute_error (event.on_instance 1) (Some 5) ∷ [];
   heap = object.class 0 ([]) ∷ object.class 1 ((2, (ref 2)) ∷ []) ∷ object.function 0 ∷ object.instance 1 ([]) ∷ object.bound (ref 3) 0 ∷ error (codes "AttributeError") ∷ [];
   ending = raised_out (ref 5);
+  choices = [];
+  turns = 0;
 }
-unfolding run answer turns_within
+unfolding answer turns_within
 looks_above_for_what_is_not_there = refl
 
 --     class B:
@@ -632,12 +698,14 @@ inherits_module = record {
   names = codes "B" ∷ codes "get" ∷ codes "self" ∷ codes "C" ∷ codes "x" ∷ [];
 }
 
-inherits : run inherits_module [] 2 (0 ∷ 0 ∷ 0 ∷ 0 ∷ []) ([]) ≡ record {
+inherits : answered inherits_module [] 2 (0 ∷ 0 ∷ 0 ∷ 0 ∷ []) ([]) ≡ record {
   events = event.returned 0 (whole (pos 1)) ∷ event.held 4 (whole (pos 1)) ∷ [];
   heap = object.class 0 ((1, (ref 1)) ∷ []) ∷ object.function 0 ∷ object.class 1 ([]) ∷ object.instance 1 ([]) ∷ object.bound (ref 3) 0 ∷ [];
   ending = ended;
+  choices = [];
+  turns = 0;
 }
-unfolding run answer turns_within
+unfolding answer turns_within
 inherits = refl
 
 -- an exception class takes any arguments by position
@@ -653,12 +721,14 @@ raises_an_exception_of_the_module_module = record {
   names = codes "E" ∷ codes "ValueError" ∷ codes "e" ∷ codes "x" ∷ [];
 }
 
-raises_an_exception_of_the_module : run raises_an_exception_of_the_module_module [] 1 (0 ∷ 0 ∷ 0 ∷ 0 ∷ 0 ∷ 0 ∷ 0 ∷ []) ([]) ≡ record {
+raises_an_exception_of_the_module : answered raises_an_exception_of_the_module_module [] 1 (0 ∷ 0 ∷ 0 ∷ 0 ∷ 0 ∷ 0 ∷ 0 ∷ []) ([]) ≡ record {
   events = event.held 3 (ref 1) ∷ [];
   heap = object.class 0 ([]) ∷ object.instance 0 ([]) ∷ native (codes "ValueError") ∷ [];
   ending = ended;
+  choices = [];
+  turns = 0;
 }
-unfolding run answer turns_within
+unfolding answer turns_within
 raises_an_exception_of_the_module = refl
 
 --     class C:
@@ -672,10 +742,12 @@ fills_a_class_as_values_come_module = record {
   names = codes "C" ∷ codes "a" ∷ codes "b" ∷ codes "nope" ∷ codes "f" ∷ codes "self" ∷ [];
 }
 
-fills_a_class_as_values_come : run fills_a_class_as_values_come_module [] 0 (0 ∷ []) ([]) ≡ record {
+fills_a_class_as_values_come : answered fills_a_class_as_values_come_module [] 0 (0 ∷ []) ([]) ≡ record {
   events = [];
   heap = object.class 0 ((1, (whole (pos 1))) ∷ (2, (ref 1)) ∷ (4, (ref 2)) ∷ []) ∷ anything ∷ object.function 0 ∷ [];
   ending = ended;
+  choices = [];
+  turns = 0;
 }
-unfolding run answer turns_within
+unfolding answer turns_within
 fills_a_class_as_values_come = refl

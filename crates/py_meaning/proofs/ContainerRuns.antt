@@ -9,9 +9,9 @@ use Rattle.py_tree.specs.Tree.{Module, Param, node, Exprs, no_exprs, expr, no_bo
 use Rattle.py_meaning.specs.Values.{none, whole, text, ref}
 use Rattle.py_meaning.specs.Objects as object
 use Rattle.py_meaning.specs.Events as event
-use Rattle.py_meaning.specs.Runs.{turns_within, answer, ended, raised_out, run}
+use Rattle.py_meaning.specs.Runs.{turns_within, answer, ended, raised_out}
 use Rattle.builtin_stubs.specs.declared.basic.Basic.TheVariants as kind
-use Rattle.py_meaning.proofs.Samples.{native, method, error}
+use Rattle.py_meaning.proofs.Samples.{answered, native, method, error}
 
 -- any element by choice: 3 mod 2 is 1
 --     xs = [1, 2]
@@ -22,12 +22,14 @@ reads_an_item_module = record {
   names = codes "xs" ∷ codes "y" ∷ [];
 }
 
-reads_an_item : run reads_an_item_module [] 0 (0 ∷ 0 ∷ 3 ∷ []) ([]) ≡ record {
+reads_an_item : answered reads_an_item_module [] 0 (0 ∷ 0 ∷ 3 ∷ []) ([]) ≡ record {
   events = event.held 0 (ref 0) ∷ event.held 1 (whole (pos 2)) ∷ [];
   heap = object.list 3 ((whole (pos 1)) ∷ (whole (pos 2)) ∷ []) ∷ [];
   ending = ended;
+  choices = [];
+  turns = 0;
 }
-unfolding run answer turns_within
+unfolding answer turns_within
 reads_an_item = refl
 
 -- a choice among one is not taken
@@ -38,12 +40,14 @@ reads_the_only_item_module = record {
   names = codes "y" ∷ [];
 }
 
-reads_the_only_item : run reads_the_only_item_module [] 0 (0 ∷ []) ([]) ≡ record {
+reads_the_only_item : answered reads_the_only_item_module [] 0 (0 ∷ []) ([]) ≡ record {
   events = event.held 0 (whole (pos 7)) ∷ [];
   heap = object.tuple 2 object.places ((whole (pos 7)) ∷ []) ∷ [];
   ending = ended;
+  choices = [];
+  turns = 0;
 }
-unfolding run answer turns_within
+unfolding answer turns_within
 reads_the_only_item = refl
 
 --     y = [][0]
@@ -53,12 +57,14 @@ reads_an_item_of_none_module = record {
   names = codes "y" ∷ [];
 }
 
-reads_an_item_of_none : run reads_an_item_of_none_module [] 0 (0 ∷ []) ([]) ≡ record {
+reads_an_item_of_none : answered reads_an_item_of_none_module [] 0 (0 ∷ []) ([]) ≡ record {
   events = [];
   heap = object.list 1 ([]) ∷ error (codes "IndexError") ∷ [];
   ending = raised_out (ref 1);
+  choices = [];
+  turns = 0;
 }
-unfolding run answer turns_within
+unfolding answer turns_within
 reads_an_item_of_none = refl
 
 --     d = {"a": 1, "b": None}
@@ -69,12 +75,14 @@ reads_a_value_module = record {
   names = codes "d" ∷ codes "y" ∷ [];
 }
 
-reads_a_value : run reads_a_value_module [] 0 (0 ∷ 0 ∷ 1 ∷ []) ([]) ≡ record {
+reads_a_value : answered reads_a_value_module [] 0 (0 ∷ 0 ∷ 1 ∷ []) ([]) ≡ record {
   events = event.held 0 (ref 0) ∷ event.held 1 none ∷ [];
   heap = object.dict 5 (((text false), (whole (pos 1))) ∷ ((text false), none) ∷ []) ∷ [];
   ending = ended;
+  choices = [];
+  turns = 0;
 }
-unfolding run answer turns_within
+unfolding answer turns_within
 reads_a_value = refl
 
 --     y = {}[1]
@@ -84,12 +92,14 @@ reads_a_value_of_none_module = record {
   names = codes "y" ∷ [];
 }
 
-reads_a_value_of_none : run reads_a_value_of_none_module [] 0 (0 ∷ []) ([]) ≡ record {
+reads_a_value_of_none : answered reads_a_value_of_none_module [] 0 (0 ∷ []) ([]) ≡ record {
   events = [];
   heap = object.dict 1 ([]) ∷ error (codes "KeyError") ∷ [];
   ending = raised_out (ref 1);
+  choices = [];
+  turns = 0;
 }
-unfolding run answer turns_within
+unfolding answer turns_within
 reads_a_value_of_none = refl
 
 --     y = "ab"[0]
@@ -100,12 +110,14 @@ reads_a_letter_module = record {
   names = codes "y" ∷ codes "z" ∷ [];
 }
 
-reads_a_letter : run reads_a_letter_module [] 0 (0 ∷ 1 ∷ 0 ∷ 4 ∷ []) ([]) ≡ record {
+reads_a_letter : answered reads_a_letter_module [] 0 (0 ∷ 1 ∷ 0 ∷ 4 ∷ []) ([]) ≡ record {
   events = event.held 0 (text false) ∷ event.held 1 (whole (pos 4)) ∷ [];
   heap = [];
   ending = ended;
+  choices = [];
+  turns = 0;
 }
-unfolding run answer turns_within
+unfolding answer turns_within
 reads_a_letter = refl
 
 --     y = 3[0]
@@ -115,12 +127,14 @@ reads_an_item_of_a_number_module = record {
   names = codes "y" ∷ [];
 }
 
-reads_an_item_of_a_number : run reads_an_item_of_a_number_module [] 0 (0 ∷ []) ([]) ≡ record {
+reads_an_item_of_a_number : answered reads_an_item_of_a_number_module [] 0 (0 ∷ []) ([]) ≡ record {
   events = event.fault 1 event.unsupported_operands event.on_another None ∷ [];
   heap = error (codes "TypeError") ∷ [];
   ending = raised_out (ref 0);
+  choices = [];
+  turns = 0;
 }
-unfolding run answer turns_within
+unfolding answer turns_within
 reads_an_item_of_a_number = refl
 
 --     y = [1]["a"]
@@ -130,12 +144,14 @@ reads_by_a_text_module = record {
   names = codes "y" ∷ [];
 }
 
-reads_by_a_text : run reads_by_a_text_module [] 0 (0 ∷ []) ([]) ≡ record {
+reads_by_a_text : answered reads_by_a_text_module [] 0 (0 ∷ []) ([]) ≡ record {
   events = event.fault 1 event.unsupported_operands event.on_another None ∷ [];
   heap = object.list 2 ((whole (pos 1)) ∷ []) ∷ error (codes "TypeError") ∷ [];
   ending = raised_out (ref 1);
+  choices = [];
+  turns = 0;
 }
-unfolding run answer turns_within
+unfolding answer turns_within
 reads_by_a_text = refl
 
 -- a part stays where its choice is even
@@ -146,12 +162,14 @@ slices_a_list_module = record {
   names = codes "y" ∷ [];
 }
 
-slices_a_list : run slices_a_list_module [] 0 (0 ∷ 2 ∷ 1 ∷ 4 ∷ []) ([]) ≡ record {
+slices_a_list : answered slices_a_list_module [] 0 (0 ∷ 2 ∷ 1 ∷ 4 ∷ []) ([]) ≡ record {
   events = event.held 0 (ref 1) ∷ [];
   heap = object.list 4 ((whole (pos 1)) ∷ (whole (pos 2)) ∷ (whole (pos 3)) ∷ []) ∷ object.list 7 ((whole (pos 1)) ∷ (whole (pos 3)) ∷ []) ∷ [];
   ending = ended;
+  choices = [];
+  turns = 0;
 }
-unfolding run answer turns_within
+unfolding answer turns_within
 slices_a_list = refl
 
 --     y = (1, 2)[::]
@@ -161,12 +179,14 @@ slices_a_tuple_module = record {
   names = codes "y" ∷ [];
 }
 
-slices_a_tuple : run slices_a_tuple_module [] 0 (0 ∷ 1 ∷ 0 ∷ []) ([]) ≡ record {
+slices_a_tuple : answered slices_a_tuple_module [] 0 (0 ∷ 1 ∷ 0 ∷ []) ([]) ≡ record {
   events = event.held 0 (ref 1) ∷ [];
   heap = object.tuple 3 object.places ((whole (pos 1)) ∷ (whole (pos 2)) ∷ []) ∷ object.tuple 4 object.parts ((whole (pos 2)) ∷ []) ∷ [];
   ending = ended;
+  choices = [];
+  turns = 0;
 }
-unfolding run answer turns_within
+unfolding answer turns_within
 slices_a_tuple = refl
 
 --     y = "abc"[1:]
@@ -176,12 +196,14 @@ slices_a_text_module = record {
   names = codes "y" ∷ [];
 }
 
-slices_a_text : run slices_a_text_module [] 0 (0 ∷ 2 ∷ []) ([]) ≡ record {
+slices_a_text : answered slices_a_text_module [] 0 (0 ∷ 2 ∷ []) ([]) ≡ record {
   events = event.held 0 (text true) ∷ [];
   heap = [];
   ending = ended;
+  choices = [];
+  turns = 0;
 }
-unfolding run answer turns_within
+unfolding answer turns_within
 slices_a_text = refl
 
 --     y = 3[:]
@@ -191,12 +213,14 @@ slices_a_number_module = record {
   names = codes "y" ∷ [];
 }
 
-slices_a_number : run slices_a_number_module [] 0 (0 ∷ []) ([]) ≡ record {
+slices_a_number : answered slices_a_number_module [] 0 (0 ∷ []) ([]) ≡ record {
   events = event.fault 1 event.unsupported_operands event.on_another None ∷ [];
   heap = error (codes "TypeError") ∷ [];
   ending = raised_out (ref 0);
+  choices = [];
+  turns = 0;
 }
-unfolding run answer turns_within
+unfolding answer turns_within
 slices_a_number = refl
 
 --     xs = [1, 2]
@@ -207,12 +231,14 @@ stores_an_item_module = record {
   names = codes "xs" ∷ [];
 }
 
-stores_an_item : run stores_an_item_module [] 0 (0 ∷ 0 ∷ 1 ∷ []) ([]) ≡ record {
+stores_an_item : answered stores_an_item_module [] 0 (0 ∷ 0 ∷ 1 ∷ []) ([]) ≡ record {
   events = event.held 0 (ref 0) ∷ [];
   heap = object.list 3 ((whole (pos 1)) ∷ (whole (pos 5)) ∷ []) ∷ [];
   ending = ended;
+  choices = [];
+  turns = 0;
 }
-unfolding run answer turns_within
+unfolding answer turns_within
 stores_an_item = refl
 
 --     xs = []
@@ -223,12 +249,14 @@ stores_an_item_of_none_module = record {
   names = codes "xs" ∷ [];
 }
 
-stores_an_item_of_none : run stores_an_item_of_none_module [] 0 (0 ∷ 0 ∷ []) ([]) ≡ record {
+stores_an_item_of_none : answered stores_an_item_of_none_module [] 0 (0 ∷ 0 ∷ []) ([]) ≡ record {
   events = [];
   heap = object.list 1 ([]) ∷ error (codes "IndexError") ∷ [];
   ending = raised_out (ref 1);
+  choices = [];
+  turns = 0;
 }
-unfolding run answer turns_within
+unfolding answer turns_within
 stores_an_item_of_none = refl
 
 -- in place of a value, or at the last number as a new pair
@@ -242,12 +270,14 @@ stores_pairs_module = record {
   names = codes "d" ∷ [];
 }
 
-stores_pairs : run stores_pairs_module [] 0 (0 ∷ 0 ∷ 0 ∷ 0 ∷ 1 ∷ 0 ∷ 0 ∷ 0 ∷ []) ([]) ≡ record {
+stores_pairs : answered stores_pairs_module [] 0 (0 ∷ 0 ∷ 0 ∷ 0 ∷ 1 ∷ 0 ∷ 0 ∷ 0 ∷ []) ([]) ≡ record {
   events = event.held 0 (ref 0) ∷ [];
   heap = object.dict 1 (((whole (pos 1)), (whole (pos 4))) ∷ ((whole (pos 1)), (whole (pos 3))) ∷ []) ∷ [];
   ending = ended;
+  choices = [];
+  turns = 0;
 }
-unfolding run answer turns_within
+unfolding answer turns_within
 stores_pairs = refl
 
 --     t = (1,)
@@ -258,12 +288,14 @@ stores_an_item_of_a_tuple_module = record {
   names = codes "t" ∷ [];
 }
 
-stores_an_item_of_a_tuple : run stores_an_item_of_a_tuple_module [] 0 (0 ∷ 0 ∷ []) ([]) ≡ record {
+stores_an_item_of_a_tuple : answered stores_an_item_of_a_tuple_module [] 0 (0 ∷ 0 ∷ []) ([]) ≡ record {
   events = event.fault 2 event.unsupported_operands event.on_another None ∷ [];
   heap = object.tuple 2 object.places ((whole (pos 1)) ∷ []) ∷ error (codes "TypeError") ∷ [];
   ending = raised_out (ref 1);
+  choices = [];
+  turns = 0;
 }
-unfolding run answer turns_within
+unfolding answer turns_within
 stores_an_item_of_a_tuple = refl
 
 --     d = {"a": 1}
@@ -274,12 +306,14 @@ adds_to_an_item_module = record {
   names = codes "d" ∷ [];
 }
 
-adds_to_an_item : run adds_to_an_item_module [] 0 (0 ∷ 0 ∷ 0 ∷ 9 ∷ 0 ∷ 0 ∷ []) ([]) ≡ record {
+adds_to_an_item : answered adds_to_an_item_module [] 0 (0 ∷ 0 ∷ 0 ∷ 9 ∷ 0 ∷ 0 ∷ []) ([]) ≡ record {
   events = event.held 0 (ref 0) ∷ [];
   heap = object.dict 3 (((text false), (whole (pos 9))) ∷ []) ∷ [];
   ending = ended;
+  choices = [];
+  turns = 0;
 }
-unfolding run answer turns_within
+unfolding answer turns_within
 adds_to_an_item = refl
 
 --     a, b = 1, 2
@@ -289,12 +323,14 @@ unpacks_a_tuple_module = record {
   names = codes "a" ∷ codes "b" ∷ [];
 }
 
-unpacks_a_tuple : run unpacks_a_tuple_module [] 0 (0 ∷ 0 ∷ []) ([]) ≡ record {
+unpacks_a_tuple : answered unpacks_a_tuple_module [] 0 (0 ∷ 0 ∷ []) ([]) ≡ record {
   events = event.held 0 (whole (pos 1)) ∷ event.held 1 (whole (pos 2)) ∷ [];
   heap = object.tuple 5 object.places ((whole (pos 1)) ∷ (whole (pos 2)) ∷ []) ∷ [];
   ending = ended;
+  choices = [];
+  turns = 0;
 }
-unfolding run answer turns_within
+unfolding answer turns_within
 unpacks_a_tuple = refl
 
 --     a, b = (1, 2, 3)
@@ -304,12 +340,14 @@ unpacks_another_count_module = record {
   names = codes "a" ∷ codes "b" ∷ [];
 }
 
-unpacks_another_count : run unpacks_another_count_module [] 0 (0 ∷ []) ([]) ≡ record {
+unpacks_another_count : answered unpacks_another_count_module [] 0 (0 ∷ []) ([]) ≡ record {
   events = [];
   heap = object.tuple 6 object.places ((whole (pos 1)) ∷ (whole (pos 2)) ∷ (whole (pos 3)) ∷ []) ∷ error (codes "ValueError") ∷ [];
   ending = raised_out (ref 1);
+  choices = [];
+  turns = 0;
 }
-unfolding run answer turns_within
+unfolding answer turns_within
 unpacks_another_count = refl
 
 -- from the last target to the first, each takes any element
@@ -320,12 +358,14 @@ unpacks_a_list_module = record {
   names = codes "a" ∷ codes "b" ∷ [];
 }
 
-unpacks_a_list : run unpacks_a_list_module [] 0 (0 ∷ 0 ∷ 0 ∷ 1 ∷ []) ([]) ≡ record {
+unpacks_a_list : answered unpacks_a_list_module [] 0 (0 ∷ 0 ∷ 0 ∷ 1 ∷ []) ([]) ≡ record {
   events = event.held 0 (whole (pos 2)) ∷ event.held 1 (whole (pos 1)) ∷ [];
   heap = object.list 5 ((whole (pos 1)) ∷ (whole (pos 2)) ∷ []) ∷ [];
   ending = ended;
+  choices = [];
+  turns = 0;
 }
-unfolding run answer turns_within
+unfolding answer turns_within
 unpacks_a_list = refl
 
 --     a, b = [1]
@@ -335,12 +375,14 @@ unpacks_too_little_module = record {
   names = codes "a" ∷ codes "b" ∷ [];
 }
 
-unpacks_too_little : run unpacks_too_little_module [] 0 (0 ∷ 0 ∷ 0 ∷ 1 ∷ []) ([]) ≡ record {
+unpacks_too_little : answered unpacks_too_little_module [] 0 (0 ∷ 0 ∷ 0 ∷ 1 ∷ []) ([]) ≡ record {
   events = [];
   heap = object.list 4 ((whole (pos 1)) ∷ []) ∷ error (codes "ValueError") ∷ [];
   ending = raised_out (ref 1);
+  choices = [];
+  turns = 0;
 }
-unfolding run answer turns_within
+unfolding answer turns_within
 unpacks_too_little = refl
 
 --     a, b = 3
@@ -350,12 +392,14 @@ unpacks_a_number_module = record {
   names = codes "a" ∷ codes "b" ∷ [];
 }
 
-unpacks_a_number : run unpacks_a_number_module [] 0 (0 ∷ []) ([]) ≡ record {
+unpacks_a_number : answered unpacks_a_number_module [] 0 (0 ∷ []) ([]) ≡ record {
   events = event.fault 1 event.not_iterable event.on_another None ∷ [];
   heap = error (codes "TypeError") ∷ [];
   ending = raised_out (ref 0);
+  choices = [];
+  turns = 0;
 }
-unfolding run answer turns_within
+unfolding answer turns_within
 unpacks_a_number = refl
 
 --     (a, b), [c] = (1, 2), "x"
@@ -365,12 +409,14 @@ unpacks_within_module = record {
   names = codes "a" ∷ codes "b" ∷ codes "c" ∷ [];
 }
 
-unpacks_within : run unpacks_within_module [] 0 (0 ∷ 0 ∷ 0 ∷ 0 ∷ 0 ∷ 0 ∷ 1 ∷ []) ([]) ≡ record {
+unpacks_within : answered unpacks_within_module [] 0 (0 ∷ 0 ∷ 0 ∷ 0 ∷ 0 ∷ 0 ∷ 1 ∷ []) ([]) ≡ record {
   events = event.held 0 (whole (pos 1)) ∷ event.held 1 (whole (pos 2)) ∷ event.held 2 (text false) ∷ [];
   heap = object.tuple 8 object.places ((whole (pos 1)) ∷ (whole (pos 2)) ∷ []) ∷ object.tuple 10 object.places ((ref 0) ∷ (text false) ∷ []) ∷ [];
   ending = ended;
+  choices = [];
+  turns = 0;
 }
-unfolding run answer turns_within
+unfolding answer turns_within
 unpacks_within = refl
 
 -- the targets share the list
@@ -381,12 +427,14 @@ assigns_to_each_module = record {
   names = codes "a" ∷ codes "b" ∷ [];
 }
 
-assigns_to_each : run assigns_to_each_module [] 0 ([]) ([]) ≡ record {
+assigns_to_each : answered assigns_to_each_module [] 0 ([]) ([]) ≡ record {
   events = event.held 0 (ref 0) ∷ event.held 1 (ref 0) ∷ [];
   heap = object.list 3 ((whole (pos 1)) ∷ []) ∷ [];
   ending = ended;
+  choices = [];
+  turns = 0;
 }
-unfolding run answer turns_within
+unfolding answer turns_within
 assigns_to_each = refl
 
 -- a list is appended to while it is iterated
@@ -400,12 +448,14 @@ appends_while_iterating_module = record {
   names = codes "xs" ∷ codes "x" ∷ codes "append" ∷ [];
 }
 
-appends_while_iterating : run appends_while_iterating_module [] 2 (0 ∷ 0 ∷ 0 ∷ 0 ∷ 0 ∷ 0 ∷ []) ([]) ≡ record {
+appends_while_iterating : answered appends_while_iterating_module [] 2 (0 ∷ 0 ∷ 0 ∷ 0 ∷ 0 ∷ 0 ∷ []) ([]) ≡ record {
   events = event.held 1 (whole (pos 1)) ∷ event.held 0 (ref 0) ∷ [];
   heap = object.list 2 ((whole (pos 1)) ∷ (text false) ∷ []) ∷ method kind.List (codes "append") (ref 0) ∷ [];
   ending = ended;
+  choices = [];
+  turns = 0;
 }
-unfolding run answer turns_within
+unfolding answer turns_within
 appends_while_iterating = refl
 
 -- the next element is the one that was appended
@@ -419,12 +469,14 @@ goes_on_with_what_was_appended_module = record {
   names = codes "xs" ∷ codes "x" ∷ codes "append" ∷ [];
 }
 
-goes_on_with_what_was_appended : run goes_on_with_what_was_appended_module [] 4 (0 ∷ 0 ∷ 0 ∷ 0 ∷ 0 ∷ 0 ∷ 0 ∷ 0 ∷ 0 ∷ 0 ∷ 1 ∷ 0 ∷ 0 ∷ 1 ∷ 0 ∷ 2 ∷ []) ([]) ≡ record {
+goes_on_with_what_was_appended : answered goes_on_with_what_was_appended_module [] 4 (0 ∷ 0 ∷ 0 ∷ 0 ∷ 0 ∷ 0 ∷ 0 ∷ 0 ∷ 0 ∷ 0 ∷ 1 ∷ 0 ∷ 0 ∷ 1 ∷ 0 ∷ 2 ∷ []) ([]) ≡ record {
   events = event.held 1 (text false) ∷ event.held 0 (ref 0) ∷ [];
   heap = object.list 2 ((whole (pos 1)) ∷ (text false) ∷ []) ∷ method kind.List (codes "append") (ref 0) ∷ [];
   ending = ended;
+  choices = [];
+  turns = 1;
 }
-unfolding run answer turns_within
+unfolding answer turns_within
 goes_on_with_what_was_appended = refl
 
 --     for k in {"a": 1}:
@@ -435,12 +487,14 @@ iterates_a_dict_module = record {
   names = codes "k" ∷ [];
 }
 
-iterates_a_dict : run iterates_a_dict_module [] 1 (0 ∷ 0 ∷ 0 ∷ 1 ∷ []) ([]) ≡ record {
+iterates_a_dict : answered iterates_a_dict_module [] 1 (0 ∷ 0 ∷ 0 ∷ 1 ∷ []) ([]) ≡ record {
   events = event.held 0 (text false) ∷ [];
   heap = object.dict 3 (((text false), (whole (pos 1))) ∷ []) ∷ [];
   ending = ended;
+  choices = [];
+  turns = 0;
 }
-unfolding run answer turns_within
+unfolding answer turns_within
 iterates_a_dict = refl
 
 --     for c in "ab":
@@ -451,12 +505,14 @@ iterates_a_text_module = record {
   names = codes "c" ∷ [];
 }
 
-iterates_a_text : run iterates_a_text_module [] 1 (0 ∷ 2 ∷ 3 ∷ 0 ∷ 1 ∷ []) ([]) ≡ record {
+iterates_a_text : answered iterates_a_text_module [] 1 (0 ∷ 2 ∷ 3 ∷ 0 ∷ 1 ∷ []) ([]) ≡ record {
   events = event.held 0 (text false) ∷ [];
   heap = [];
   ending = ended;
+  choices = [];
+  turns = 0;
 }
-unfolding run answer turns_within
+unfolding answer turns_within
 iterates_a_text = refl
 
 --     for c in []:
@@ -467,12 +523,14 @@ iterates_nothing_module = record {
   names = codes "c" ∷ [];
 }
 
-iterates_nothing : run iterates_nothing_module [] 0 (0 ∷ []) ([]) ≡ record {
+iterates_nothing : answered iterates_nothing_module [] 0 (0 ∷ []) ([]) ≡ record {
   events = [];
   heap = object.list 1 ([]) ∷ [];
   ending = ended;
+  choices = [];
+  turns = 0;
 }
-unfolding run answer turns_within
+unfolding answer turns_within
 iterates_nothing = refl
 
 --     for x in 3:
@@ -483,12 +541,14 @@ iterates_a_number_module = record {
   names = codes "x" ∷ [];
 }
 
-iterates_a_number : run iterates_a_number_module [] 0 (0 ∷ []) ([]) ≡ record {
+iterates_a_number : answered iterates_a_number_module [] 0 (0 ∷ []) ([]) ≡ record {
   events = event.fault 1 event.not_iterable event.on_another None ∷ [];
   heap = error (codes "TypeError") ∷ [];
   ending = raised_out (ref 0);
+  choices = [];
+  turns = 0;
 }
-unfolding run answer turns_within
+unfolding answer turns_within
 iterates_a_number = refl
 
 --     for n in range(3):
@@ -499,10 +559,12 @@ iterates_a_range_module = record {
   names = codes "n" ∷ codes "range" ∷ [];
 }
 
-iterates_a_range : run iterates_a_range_module [] 2 (0 ∷ 0 ∷ 0 ∷ 0 ∷ 7 ∷ 0 ∷ 1 ∷ []) ([]) ≡ record {
+iterates_a_range : answered iterates_a_range_module [] 2 (0 ∷ 0 ∷ 0 ∷ 0 ∷ 7 ∷ 0 ∷ 1 ∷ []) ([]) ≡ record {
   events = event.held 0 (whole (pos 7)) ∷ [];
   heap = native (codes "range") ∷ object.outside (term.class (codes "range")) ∷ [];
   ending = ended;
+  choices = [];
+  turns = 0;
 }
-unfolding run answer turns_within
+unfolding answer turns_within
 iterates_a_range = refl

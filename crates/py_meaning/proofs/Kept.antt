@@ -1,12 +1,14 @@
--- What an action keeps of memory: each value within the heap. One lemma for each way in which actions are put together.
-use Rattle.std.proofs.Common.{◌≡◌, ℕ, zero, suc, ◌+◌, ◌≤◌, ◌<◌, ◌==◌, Bool, true, false, if◌then◌else◌, List, [], ◌∷◌, ◌++◌, map, length, length-append, Option, Some, None, slice_get, slice_set, unwrap_or, refl, ap, arith}
+-- Each value within the heap, as an account that is kept beside a run. One lemma for each way in which actions are put together.
+use Rattle.std.proofs.Common.{◌≡◌, ℕ, zero, suc, ◌+◌, ◌≤◌, ◌<◌, ◌==◌, ◌%◌, Bool, true, false, if◌then◌else◌, List, [], ◌∷◌, ◌++◌, map, length, length-append, Option, Some, None, slice_get, slice_set, unwrap_or, refl, ap, arith}
 use Rattle.type_terms.specs.Terms as term
 use Rattle.py_meaning.specs.Values.{Value, none, truth, whole, float, text, octets, ref, Entries, entry, with_entry, without_entry}
 use Rattle.py_meaning.specs.Objects as object
-use Rattle.py_meaning.specs.Objects.{Object, object_at}
+use Rattle.py_meaning.specs.Objects.{Object, Filling, of_values, of_pairs, of_entries, refilled, object_at}
 use Rattle.py_meaning.specs.Events.{FaultKind, Event}
-use Rattle.py_meaning.specs.Actions.{Frame, Memory, Argument, Flow, returns, Request, call, while_turn, for_turn, outside_call, Outcome, came, threw, Action, gives, raises, takes, counts, turn, looks, becomes, tells, attempt, bind, then_do, done, allocate, replace, at_place, anything, pick, one_of, either_truth, raise_builtin, may_raise, fails}
+use Rattle.py_meaning.specs.Actions.{Frame, Scope, Memory, with_scope, Argument, Flow, returns, Request, call, while_turn, for_turn, outside_call, Outcome, came, threw, Action, gives, raises, takes, counts, looks, tells, attempt, bind, then_do, changes, afterwards, done, allocate, refill, at_place, anything, is_even, pick, one_of, either_truth, raise_builtin, may_raise, fails}
+use Rattle.py_meaning.specs.Holds.{Account, Lasts, Post, Holds}
 use Rattle.py_meaning.specs.References.{IsWithin, AreWithin, EntriesWithin, PairsWithin, OptionWithin, ObjectWithin, ObjectsWithin}
+use Rattle.py_meaning.proofs.Holding.{holds_attempt}
 
 -- ---- what is within fewer objects is within more
 
@@ -74,11 +76,17 @@ frame_on n k (Some f) le h = entries_on n k f.locals le h
 abbrev pub size : Memory → ℕ
 size m = length m.heap
 
+pub record ScopeWithin (n : ℕ) (c : Scope) : Type 0 where
+  pub globals : EntriesWithin n c.globals
+  pub frame : FrameWithin n c.frame
+  pub handled : OptionWithin n c.handled
+
+pub scope_on : (n k : ℕ) (c : Scope) → n ≤ k → ScopeWithin n c → ScopeWithin k c
+scope_on n k c le h = record { globals = entries_on n k c.globals le h.globals; frame = frame_on n k c.frame le h.frame; handled = option_on n k c.handled le h.handled }
+
 pub record Good (m : Memory) : Type 0 where
   pub heap : ObjectsWithin (size m) m.heap
-  pub globals : EntriesWithin (size m) m.globals
-  pub frame : FrameWithin (size m) m.frame
-  pub handled : OptionWithin (size m) m.handled
+  pub scope : ScopeWithin (size m) m.scope
 
 -- ---- requests, outcomes and events
 
@@ -100,47 +108,46 @@ abbrev pub OutcomeWithin : ℕ → Outcome → Type 0
 OutcomeWithin n (came flow) = FlowWithin n flow
 OutcomeWithin n (threw v) = IsWithin n v
 
--- ---- what an action keeps, whatever the choices and the turns
+-- ---- the account, of which nothing but memory is kept
 
-abbrev pub Keeps : {A : Type 0} → (ℕ → A → Type 0) → Action A → Memory → Type 0
-Keeps P (gives a) m = P (size m) a
-Keeps P (raises v) m = IsWithin (size m) v
-Keeps P (takes k) m = (c : ℕ) → Keeps P (k c) m
-Keeps P (counts k) m = (n : ℕ) → Keeps P (k n) m
-Keeps P (turn q k) m = RequestWithin (size m) q × ((o : Outcome) (m' : Memory) → size m ≤ size m' → Good m' → OutcomeWithin (size m') o → Keeps P (k o) m')
-Keeps P (looks k) m = Keeps P (k m) m
-Keeps P (becomes m' a) m = (size m ≤ size m') × Good m' × Keeps P a m'
-Keeps P (tells e a) m = Keeps P a m
+abbrev pub pointing : Account
+pointing = record {
+  Kept = Unit {0};
+  Always = λ g m. Good m;
+  Way = λ q. Unit {0};
+  Asked = λ q way g m. RequestWithin (size m) q;
+  Answered = λ q way g m o later m'. (size m ≤ size m') × Good m' × OutcomeWithin (size m') o;
+  Made = λ g m o later. Unit {0};
+  Told = λ g m e. Unit {0};
+}
 
--- in each good memory of so many objects at least
+pub pointing_lasts : Lasts pointing
+pointing_lasts = record { in_scope = λ g m c e t. tt; with_object = λ g m o later e made t. tt; with_filling = λ g m place new e t. tt }
+
+-- at an end, in a memory of so many objects at least
+abbrev pub Ended : {A : Type 0} → ℕ → (ℕ → A → Type 0) → Post pointing A
+Ended n P g m x = (n ≤ size m) × Good m × P (size m) x
+
+-- from each good memory of so many objects at least
 pub record Safe {A : Type 0} (n : ℕ) (P : ℕ → A → Type 0) (a : Action A) : Type 0 where
-  pub keeps : (m : Memory) → Good m → n ≤ size m → Keeps P a m
+  pub keeps : (base : ℕ) (m : Memory) → base ≤ size m → Good m → n ≤ size m → Holds pointing (Ended base P) (Ended base IsWithin) tt m a
 
 -- ---- one after the other
-
-pub keeps_attempt : {A B : Type 0} (P : ℕ → A → Type 0) (Q : ℕ → B → Type 0) (a : Action A) (f : A → Action B) (g : Value → Action B) (m : Memory) → Good m → Keeps P a m →
-    ((x : A) (m' : Memory) → size m ≤ size m' → Good m' → P (size m') x → Keeps Q (f x) m') →
-    ((v : Value) (m' : Memory) → size m ≤ size m' → Good m' → IsWithin (size m') v → Keeps Q (g v) m') → Keeps Q (attempt a f g) m
-keeps_attempt P Q (gives x) f g m good h k j = k x m (omega arith) good h
-keeps_attempt P Q (raises v) f g m good h k j = j v m (omega arith) good h
-keeps_attempt P Q (takes a) f g m good h k j = λ c. keeps_attempt P Q (a c) f g m good (h c) k j
-keeps_attempt P Q (counts a) f g m good h k j = λ n. keeps_attempt P Q (a n) f g m good (h n) k j
-keeps_attempt P Q (turn q a) f g m good h k j =
-    (h.0, λ o m' le good' w. keeps_attempt P Q (a o) f g m' good' (h.1 o m' le good' w) (λ x u le' gu p. k x u (omega arith) gu p) (λ v u le' gu p. j v u (omega arith) gu p))
-keeps_attempt P Q (looks a) f g m good h k j = keeps_attempt P Q (a m) f g m good h k j
-keeps_attempt P Q (becomes m' a) f g m good h k j =
-    (h.0, h.1, keeps_attempt P Q a f g m' h.1 h.2 (λ x u le' gu p. let first : size m ≤ size m' = h.0 in k x u (omega arith) gu p) (λ v u le' gu p. let first : size m ≤ size m' = h.0 in j v u (omega arith) gu p))
-keeps_attempt P Q (tells e a) f g m good h k j = keeps_attempt P Q a f g m good h k j
 
 pub safe_attempt : {A B : Type 0} (n : ℕ) (P : ℕ → A → Type 0) (Q : ℕ → B → Type 0) (a : Action A) (f : A → Action B) (g : Value → Action B) → Safe n P a →
     ((x : A) (k : ℕ) → n ≤ k → P k x → Safe k Q (f x)) → ((v : Value) (k : ℕ) → n ≤ k → IsWithin k v → Safe k Q (g v)) → Safe n Q (attempt a f g)
 safe_attempt n P Q a f g h k j = record {
-  keeps = λ m good le.
-      keeps_attempt P Q a f g m good (h.keeps m good le) (λ x u le' gu p. (k x (size u) (omega arith) p).keeps u gu (omega arith)) (λ v u le' gu p. (j v (size u) (omega arith) p).keeps u gu (omega arith));
+  keeps = λ base m low good le.
+      holds_attempt pointing (Ended (size m) P) (Ended (size m) IsWithin) (Ended base Q) (Ended base IsWithin) a f g tt m (h.keeps (size m) m (omega arith) good le)
+      (λ x one u e. let up : size m ≤ size u = e.0 in (k x (size u) (omega arith) e.2).keeps base u (omega arith) e.1 (omega arith))
+      (λ v one u e. let up : size m ≤ size u = e.0 in (j v (size u) (omega arith) e.2).keeps base u (omega arith) e.1 (omega arith));
 }
 
+pub safe_give : {A : Type 0} (n : ℕ) (P : ℕ → A → Type 0) (x : A) → ((k : ℕ) → n ≤ k → P k x) → Safe n P (gives x)
+safe_give n P x h = record { keeps = λ base m low good le. (low, good, h (size m) le) }
+
 pub safe_raises : {A : Type 0} (n : ℕ) (P : ℕ → A → Type 0) (v : Value) → IsWithin n v → Safe n P (raises v)
-safe_raises n P v h = record { keeps = λ m good le. within_on n (size m) v le h }
+safe_raises n P v h = record { keeps = λ base m low good le. (low, good, within_on n (size m) v le h) }
 
 pub safe_bind : {A B : Type 0} (n : ℕ) (P : ℕ → A → Type 0) (Q : ℕ → B → Type 0) (a : Action A) (f : A → Action B) → Safe n P a → ((x : A) (k : ℕ) → n ≤ k → P k x → Safe k Q (f x)) → Safe n Q (bind a f)
 safe_bind n P Q a f h k = safe_attempt n P Q a f (λ v. raises v) h k (λ v k' le p. safe_raises k' Q v p)
@@ -153,20 +160,20 @@ pub safe_then : {A B : Type 0} (n : ℕ) (P : ℕ → A → Type 0) (Q : ℕ →
 safe_then n P Q a b h k = safe_bind n P Q a (λ x. b) h (λ x k' le p. k k' le)
 
 pub safe_takes : {A : Type 0} (n : ℕ) (P : ℕ → A → Type 0) (k : ℕ → Action A) → ((c : ℕ) → Safe n P (k c)) → Safe n P (takes k)
-safe_takes n P k h = record { keeps = λ m good le. λ c. (h c).keeps m good le }
+safe_takes n P k h = record { keeps = λ base m low good le. (good, λ c. (h c).keeps base m low good le) }
 
 pub safe_counts : {A : Type 0} (n : ℕ) (P : ℕ → A → Type 0) (k : ℕ → Action A) → ((c : ℕ) → Safe n P (k c)) → Safe n P (counts k)
-safe_counts n P k h = record { keeps = λ m good le. λ c. (h c).keeps m good le }
+safe_counts n P k h = record { keeps = λ base m low good le. λ c. (h c).keeps base m low good le }
 
 pub safe_looks : {A : Type 0} (n : ℕ) (P : ℕ → A → Type 0) (k : Memory → Action A) → ((m : Memory) → Good m → n ≤ size m → Safe (size m) P (k m)) → Safe n P (looks k)
-safe_looks n P k h = record { keeps = λ m good le. (h m good le).keeps m good (omega arith) }
+safe_looks n P k h = record { keeps = λ base m low good le. (h m good le).keeps base m low good (omega arith) }
 
 pub safe_if : {A : Type 0} (n : ℕ) (P : ℕ → A → Type 0) (b : Bool) (f g : Action A) → Safe n P f → Safe n P g → Safe n P (if b then f else g)
 safe_if n P true f g h k = h
 safe_if n P false f g h k = k
 
 pub safe_on : {A : Type 0} (n k : ℕ) (P : ℕ → A → Type 0) (a : Action A) → n ≤ k → Safe n P a → Safe k P a
-safe_on n k P a le h = record { keeps = λ m good le'. h.keeps m good (omega arith) }
+safe_on n k P a le h = record { keeps = λ base m low good le'. h.keeps base m low good (omega arith) }
 
 -- ---- the heap
 
@@ -176,19 +183,21 @@ objects_push n (x ∷ xs) o h w = (h.0, objects_push n xs o h.1 w)
 
 pub safe_allocate : (n : ℕ) (o : Object) → ObjectWithin n o → Safe n IsWithin (allocate o)
 safe_allocate n o h = record {
-  keeps = λ m good le.
+  keeps = λ base m low good le.
       let longer : length (m.heap ++ o ∷ []) ≡ length m.heap + 1 = length-append m.heap (o ∷ []) in
       let up : length m.heap ≤ length (m.heap ++ o ∷ []) = omega arith in
       let far : n ≤ length (m.heap ++ o ∷ []) = omega arith in
       let here : length m.heap < length (m.heap ++ o ∷ []) = omega arith in (
-        up,
-        record {
-          heap = objects_push (length (m.heap ++ o ∷ [])) m.heap o (objects_on (length m.heap) (length (m.heap ++ o ∷ [])) m.heap up good.heap) (object_on n (length (m.heap ++ o ∷ [])) o far h);
-          globals = entries_on (length m.heap) (length (m.heap ++ o ∷ [])) m.globals up good.globals;
-          frame = frame_on (length m.heap) (length (m.heap ++ o ∷ [])) m.frame up good.frame;
-          handled = option_on (length m.heap) (length (m.heap ++ o ∷ [])) m.handled up good.handled;
-        },
-        here,
+        tt,
+        tt,
+        (
+          omega arith,
+          record {
+            heap = objects_push (length (m.heap ++ o ∷ [])) m.heap o (objects_on (length m.heap) (length (m.heap ++ o ∷ [])) m.heap up good.heap) (object_on n (length (m.heap ++ o ∷ [])) o far h);
+            scope = scope_on (length m.heap) (length (m.heap ++ o ∷ [])) m.scope up good.scope;
+          },
+          here,
+        ),
       );
 }
 
@@ -202,26 +211,8 @@ length_set [] i o = refl
 length_set (x ∷ xs) zero o = refl
 length_set (x ∷ xs) (suc i) o = ap suc (length_set xs i o)
 
--- a change of memory that leaves the heap's length
 pub safe_done : (n : ℕ) → Safe n Free done
-safe_done n = record { keeps = λ m good le. tt }
-
-pub safe_replace : (n place : ℕ) (o : Object) → ObjectWithin n o → Safe n Free (replace place o)
-safe_replace n place o h = record {
-  keeps = λ m good le.
-      let same : length (slice_set m.heap place o) ≡ length m.heap = length_set m.heap place o in
-      let up : length m.heap ≤ length (slice_set m.heap place o) = omega arith in
-      let far : n ≤ length (slice_set m.heap place o) = omega arith in (
-        up,
-        record {
-          heap = objects_set (length (slice_set m.heap place o)) m.heap place o (objects_on (length m.heap) (length (slice_set m.heap place o)) m.heap up good.heap) (object_on n (length (slice_set m.heap place o)) o far h);
-          globals = entries_on (length m.heap) (length (slice_set m.heap place o)) m.globals up good.globals;
-          frame = frame_on (length m.heap) (length (slice_set m.heap place o)) m.frame up good.frame;
-          handled = option_on (length m.heap) (length (slice_set m.heap place o)) m.handled up good.handled;
-        },
-        tt,
-      );
-}
+safe_done n = safe_give n Free tt (λ k le. tt)
 
 found_within : (n : ℕ) (os : List Object) (i : ℕ) → ObjectsWithin n os → ObjectWithin n (unwrap_or (slice_get os i) (object.outside term.any))
 found_within n [] i h = tt
@@ -231,24 +222,69 @@ found_within n (o ∷ os) (suc i) h = found_within n os i h.1
 pub object_within : (m : Memory) (place : ℕ) → Good m → ObjectWithin (size m) (object_at m.heap place)
 object_within m place good = found_within (size m) m.heap place good.heap
 
+-- what an object may have in place of its parts
+abbrev pub FillingWithin : ℕ → Filling → Type 0
+FillingWithin n (of_values vs) = AreWithin n vs
+FillingWithin n (of_pairs qs) = PairsWithin n qs
+FillingWithin n (of_entries es) = EntriesWithin n es
+
+filling_on : (n k : ℕ) (new : Filling) → n ≤ k → FillingWithin n new → FillingWithin k new
+filling_on n k (of_values vs) le h = are_on n k vs le h
+filling_on n k (of_pairs qs) le h = pairs_on n k qs le h
+filling_on n k (of_entries es) le h = entries_on n k es le h
+
+refilled_within : (n : ℕ) (o : Object) (new : Filling) → ObjectWithin n o → FillingWithin n new → ObjectWithin n (refilled o new)
+refilled_within n (object.list site xs) (of_values ys) h k = k
+refilled_within n (object.dict site ps) (of_pairs qs) h k = k
+refilled_within n (object.instance c es) (of_entries ds) h k = k
+refilled_within n (object.class c es) (of_entries ds) h k = k
+refilled_within n o new h k = h
+
+pub safe_refill : (n place : ℕ) (new : Filling) → FillingWithin n new → Safe n Free (refill place new)
+safe_refill n place new h = record {
+  keeps = λ base m low good le.
+      let o : Object = refilled (object_at m.heap place) new in
+      let same : length (slice_set m.heap place o) ≡ length m.heap = length_set m.heap place o in
+      let up : length m.heap ≤ length (slice_set m.heap place o) = omega arith in
+      let w : ObjectWithin (size m) o = refilled_within (size m) (object_at m.heap place) new (object_within m place good) (filling_on n (size m) new le h) in (
+        omega arith,
+        record {
+          heap = objects_set (length (slice_set m.heap place o)) m.heap place o (objects_on (length m.heap) (length (slice_set m.heap place o)) m.heap up good.heap) (object_on (size m) (length (slice_set m.heap place o)) o up w);
+          scope = scope_on (length m.heap) (length (slice_set m.heap place o)) m.scope up good.scope;
+        },
+        tt,
+      );
+}
+
 pub safe_at : {A : Type 0} (n : ℕ) (P : ℕ → A → Type 0) (place : ℕ) (f : Object → Action A) → ((o : Object) (k : ℕ) → n ≤ k → ObjectWithin k o → Safe k P (f o)) → Safe n P (at_place place f)
-safe_at n P place f h = record { keeps = λ m good le. (h (object_at m.heap place) (size m) le (object_within m place good)).keeps m good (omega arith) }
+safe_at n P place f h = record { keeps = λ base m low good le. (h (object_at m.heap place) (size m) le (object_within m place good)).keeps base m low good (omega arith) }
+
+-- ---- the scope
+
+pub safe_changes : {A : Type 0} (n : ℕ) (P : ℕ → A → Type 0) (f : Scope → Scope) (a : Action A) → ((c : Scope) (k : ℕ) → n ≤ k → ScopeWithin k c → ScopeWithin k (f c)) → Safe n P a → Safe n P (changes f a)
+safe_changes n P f a g h = record { keeps = λ base m low good le. h.keeps base (with_scope (f m.scope) m) low (record { heap = good.heap; scope = g m.scope (size m) le good.scope }) le }
+
+pub safe_afterwards : {A : Type 0} (n : ℕ) (P : ℕ → A → Type 0) (a : Action A) (f : Scope → Scope) → ((k : ℕ) (x : A) → P k x → Safe k P (gives x)) → ((c : Scope) (k : ℕ) → n ≤ k → ScopeWithin k c → ScopeWithin k (f c)) → Safe n P a → Safe n P (afterwards a f)
+safe_afterwards n P a f gv g h =
+    safe_attempt n P P a (λ x. changes f (gives x)) (λ v. changes f (raises v)) h
+    (λ x k le w. safe_changes k P f (gives x) (λ c j le' good. g c j (omega arith) good) (gv k x w))
+    (λ v k le w. safe_changes k P f (raises v) (λ c j le' good. g c j (omega arith) good) (safe_raises k P v w))
 
 -- ---- choices, and what is raised
 
 pub safe_tells : {A : Type 0} (n : ℕ) (P : ℕ → A → Type 0) (e : Event) (a : Action A) → Safe n P a → Safe n P (tells e a)
-safe_tells n P e a h = record { keeps = λ m good le. h.keeps m good le }
+safe_tells n P e a h = record { keeps = λ base m low good le. (tt, h.keeps base m low good le) }
 
 pub safe_pick : (n k : ℕ) → Safe n Free (pick k)
-safe_pick n zero = record { keeps = λ m good le. tt }
-safe_pick n (suc zero) = record { keeps = λ m good le. tt }
-safe_pick n (suc (suc k)) = record { keeps = λ m good le. λ c. tt }
+safe_pick n zero = safe_give n Free 0 (λ k le. tt)
+safe_pick n (suc zero) = safe_give n Free 0 (λ k le. tt)
+safe_pick n (suc (suc k)) = safe_takes n Free _ (λ c. safe_give n Free (c % suc (suc k)) (λ j le. tt))
 
 pub safe_anything : (n : ℕ) → Safe n IsWithin anything
 safe_anything n = safe_allocate n (object.outside term.any) tt
 
 pub safe_either : (n : ℕ) → Safe n IsWithin either_truth
-safe_either n = record { keeps = λ m good le. λ c. tt }
+safe_either n = safe_takes n IsWithin _ (λ c. safe_give n IsWithin (truth (is_even c)) (λ k le. tt))
 
 pub safe_raise : {A : Type 0} (n : ℕ) (P : ℕ → A → Type 0) (name : List ℕ) → Safe n P (raise_builtin name)
 safe_raise n P name = safe_bind n IsWithin P (allocate (object.outside (term.class name))) (λ v. raises v) (safe_allocate n (object.outside (term.class name)) tt) (λ v k le p. safe_raises k P v p)
@@ -260,7 +296,7 @@ pub safe_fails : {A : Type 0} (n : ℕ) (P : ℕ → A → Type 0) (line : ℕ) 
 safe_fails n P line kind = safe_tells n P _ _ (safe_raise n P _)
 
 pub safe_one : {A : Type 0} (n : ℕ) (xs : List A) → Safe n Free (one_of xs)
-safe_one n xs = safe_bind n Free Free (pick (length xs)) _ (safe_pick n (length xs)) (λ i k le h. record { keeps = λ m good le'. tt })
+safe_one n xs = safe_bind n Free Free (pick (length xs)) _ (safe_pick n (length xs)) (λ i k le h. safe_give k Free (slice_get xs i) (λ j le'. tt))
 
 -- ---- what is chosen by an option
 
@@ -275,13 +311,13 @@ safe_found n P (Some v) f a w h k = h v w
 -- ---- lists of values
 
 pub safe_gives : (n : ℕ) (v : Value) → IsWithin n v → Safe n IsWithin (gives v)
-safe_gives n v h = record { keeps = λ m good le. within_on n (size m) v le h }
+safe_gives n v h = safe_give n IsWithin v (λ k le. within_on n k v le h)
 
 pub safe_gives_all : (n : ℕ) (vs : List Value) → AreWithin n vs → Safe n AreWithin (gives vs)
-safe_gives_all n vs h = record { keeps = λ m good le. are_on n (size m) vs le h }
+safe_gives_all n vs h = safe_give n AreWithin vs (λ k le. are_on n k vs le h)
 
 pub safe_gives_pairs : (n : ℕ) (qs : List (Value × Value)) → PairsWithin n qs → Safe n PairsWithin (gives qs)
-safe_gives_pairs n qs h = record { keeps = λ m good le. pairs_on n (size m) qs le h }
+safe_gives_pairs n qs h = safe_give n PairsWithin qs (λ k le. pairs_on n k qs le h)
 
 pub are_append : (n : ℕ) (vs ws : List Value) → AreWithin n vs → AreWithin n ws → AreWithin n (vs ++ ws)
 are_append n [] ws h k = k
@@ -334,4 +370,4 @@ with_entry_within n (e ∷ es) name v h k = chosen_entries (e.0 == name) n ((nam
 
 pub without_entry_within : (n : ℕ) (es : Entries) (name : ℕ) → EntriesWithin n es → EntriesWithin n (without_entry es name)
 without_entry_within n [] name h = tt
-without_entry_within n (e ∷ es) name h = chosen_entries (e.0 == name) n es (e ∷ without_entry es name) h.1 (h.0, without_entry_within n es name h.1)
+without_entry_within n (e ∷ es) name h = let rest = without_entry_within n es name h.1 in chosen_entries (e.0 == name) n (without_entry es name) (e ∷ without_entry es name) rest (h.0, rest)

@@ -32,16 +32,16 @@ use Rattle.py_meaning.specs.Matching.{native_fault}
 use Rattle.py_meaning.specs.Dicts.{pairs_added, add_pairs, add_two, is_outside_at, add_item, add_each, add_through, add_from_object, add_from}
 use Rattle.py_meaning.specs.Natives.{values, word_pairs, call_by_texts, argument_or, gives_none, given_items, own_pairs, is_dict, given_pairs, receiver_pairs, keys_in, values_in, given, part_values, all_values, some_of, many, three, single, filled_from, new_dict, one_or_error, least_or_most, tells_class, part_value, some_value, outcome_value, same_place, entering, parts_added, add_parts, paired, effects_on, do_effects, inserts, take_part, pops, removes, clears, some_pair, gets, sets_default, pair_taken, given_or_error, pops_pair, updates, do_by_parts, do_deed, do_native, call_native}
 use Rattle.py_meaning.specs.Names.{found_or, native_value, builtin_value, global_value, value_in_frame, load, with_globals, with_locals, changed_in_frame, bound, store}
-use Rattle.py_meaning.specs.Actions.{Frame, Memory, Argument, Action, gives, counts, looks, bind, then_do, allocate, replace, anything, is_even, pick, one_of, raise_builtin, may_raise, fails, done}
+use Rattle.py_meaning.specs.Actions.{Frame, Scope, Memory, Argument, Action, gives, counts, looks, bind, then_do, allocate, refill, anything, is_even, pick, one_of, raise_builtin, may_raise, fails, done}
 use Rattle.py_meaning.specs.References.{IsWithin, AreWithin, EntriesWithin, PairsWithin, OptionWithin, ObjectWithin}
-use Rattle.py_meaning.proofs.Kept.{within_on, are_on, pairs_on, option_on, object_on, FrameWithin, size, Good, Safe, Free, ArgumentsWithin, safe_bind, safe_then, safe_takes, safe_counts, safe_looks, safe_if, safe_on, safe_allocate, safe_done, safe_replace, safe_at, object_within, safe_pick, safe_anything, safe_raise, safe_fails, safe_may, safe_option, safe_gives, safe_gives_all, safe_gives_pairs, firsts_within, seconds_within, are_append, pairs_append, get_within, or_within, entry_within, with_entry_within}
+use Rattle.py_meaning.proofs.Kept.{safe_give, within_on, are_on, pairs_on, option_on, object_on, FrameWithin, size, ScopeWithin, Good, Safe, safe_changes, Free, ArgumentsWithin, safe_bind, safe_then, safe_takes, safe_counts, safe_looks, safe_if, safe_on, safe_allocate, safe_done, safe_refill, safe_at, object_within, safe_pick, safe_anything, safe_raise, safe_fails, safe_may, safe_option, safe_gives, safe_gives_all, safe_gives_pairs, firsts_within, seconds_within, are_append, pairs_append, get_within, or_within, entry_within, with_entry_within}
 use Rattle.py_meaning.proofs.KeptValues.{kind_safe, row_value_safe, ContentWithin, ContentPairsWithin, contents_within, contents_at_within, content_pairs_within, read_safe, read_all_safe, read_pairs_safe, StepWithin, element_safe, iterate_safe, items_safe}
 use Rattle.py_meaning.proofs.KeptParts.{part_safe, OnePairWithin, one_pair_within, decided_safe}
 
 -- ---- dicts
 
 pairs_added_safe : (place n : ℕ) (qs : List (Value × Value)) (o : Object) → PairsWithin n qs → ObjectWithin n o → Safe n Free (pairs_added place qs o)
-pairs_added_safe place n qs (object.dict site ps) h k = safe_replace n place (object.dict site (ps ++ qs)) (pairs_append n ps qs k h)
+pairs_added_safe place n qs (object.dict site ps) h k = safe_refill n place (object.of_pairs (ps ++ qs)) (pairs_append n ps qs k h)
 pairs_added_safe place n qs (object.list site vs) h k = safe_done n
 pairs_added_safe place n qs _ h k = safe_done n
 
@@ -211,7 +211,7 @@ one_or_error_safe n None h = safe_raise n IsWithin (codes "ValueError")
 one_or_error_safe n (Some v) h = safe_gives n v h
 
 option_gives : (n : ℕ) (o : Option Value) → OptionWithin n o → Safe n OptionWithin (gives o)
-option_gives n o h = record { keeps = λ m good le. option_on n (size m) o le h }
+option_gives n o h = safe_give n OptionWithin o (λ k le. option_on n k o le h)
 
 one_value : (n : ℕ) (vs : List Value) → AreWithin n vs → Safe n OptionWithin (one_of vs)
 one_value n vs h = safe_bind n Free OptionWithin (pick (length vs)) (λ i. gives (slice_get vs i)) (safe_pick n (length vs)) (λ i k le w. option_gives k (slice_get vs i) (get_within k vs i (are_on n k vs le h)))
@@ -272,7 +272,7 @@ entering_safe p to n receiver as' (e ∷ es) h =
     (entering_safe p to n receiver as' es h)
 
 parts_added_safe : (place n : ℕ) (ws : List Value) (o : Object) → AreWithin n ws → ObjectWithin n o → Safe n Free (parts_added place ws o)
-parts_added_safe place n ws (object.list site vs) h k = safe_replace n place (object.list site (vs ++ ws)) (are_append n vs ws k h)
+parts_added_safe place n ws (object.list site vs) h k = safe_refill n place (object.of_values (vs ++ ws)) (are_append n vs ws k h)
 parts_added_safe place n ws (object.dict site qs) h k = safe_done n
 parts_added_safe place n ws _ h k = safe_done n
 
@@ -334,13 +334,13 @@ remove_pairs n qs i h = pairs_append n (take i qs) (drop (suc i) qs) (take_pairs
 
 inserts_safe : (place n : ℕ) (v : Value) (o : Object) → IsWithin n v → ObjectWithin n o → Safe n IsWithin (inserts place v o)
 inserts_safe place n v (object.list site vs) a h =
-    safe_bind n Free IsWithin (pick (suc (length vs))) (λ i. then_do (replace place (object.list site (insert vs i v))) gives_none) (safe_pick n (suc (length vs))) (λ i k le w.
-    safe_then k Free IsWithin (replace place (object.list site (insert vs i v))) gives_none (safe_replace k place (object.list site (insert vs i v)) (insert_within k vs i v (are_on n k vs le h) (within_on n k v le a))) (λ j le'. none_safe j))
+    safe_bind n Free IsWithin (pick (suc (length vs))) (λ i. then_do (refill place (object.of_values (insert vs i v))) gives_none) (safe_pick n (suc (length vs))) (λ i k le w.
+    safe_then k Free IsWithin (refill place (object.of_values (insert vs i v))) gives_none (safe_refill k place (object.of_values (insert vs i v)) (insert_within k vs i v (are_on n k vs le h) (within_on n k v le a))) (λ j le'. none_safe j))
 inserts_safe place n v (object.dict site qs) a h = none_safe n
 inserts_safe place n v _ a h = none_safe n
 
-take_safe : (place site n : ℕ) (vs : List Value) (i : ℕ) → AreWithin n vs → Safe n Free (take_part place site vs i)
-take_safe place site n vs i h = safe_replace n place (object.list site (remove vs i)) (remove_within n vs i h)
+take_safe : (place n : ℕ) (vs : List Value) (i : ℕ) → AreWithin n vs → Safe n Free (take_part place vs i)
+take_safe place n vs i h = safe_refill n place (object.of_values (remove vs i)) (remove_within n vs i h)
 
 pop_one : (p : Program) (n : ℕ) (o : Object) → ObjectWithin n o → Safe n IsWithin (bind (one_of (contents o)) (λ c. elim c [ None ↦ raise_builtin (codes "IndexError") | Some one ↦ read p one ]))
 pop_one p n o h = part_safe p n (contents o) (contents_within n o h)
@@ -348,21 +348,21 @@ pop_one p n o h = part_safe p n (contents o) (contents_within n o h)
 pops_safe : (p : Program) (place n : ℕ) (o : Object) → ObjectWithin n o → Safe n IsWithin (pops p place o)
 pops_safe p place n (object.list site []) h = safe_raise n IsWithin (codes "IndexError")
 pops_safe p place n (object.list site (v ∷ vs)) h =
-    safe_bind n Free IsWithin (pick (length (v ∷ vs))) (λ i. then_do (take_part place site (v ∷ vs) i) (gives (unwrap_or (slice_get (v ∷ vs) i) v))) (safe_pick n (length (v ∷ vs))) (λ i k le w.
-    safe_then k Free IsWithin (take_part place site (v ∷ vs) i) (gives (unwrap_or (slice_get (v ∷ vs) i) v)) (take_safe place site k (v ∷ vs) i (are_on n k (v ∷ vs) le h)) (λ j le'.
+    safe_bind n Free IsWithin (pick (length (v ∷ vs))) (λ i. then_do (take_part place (v ∷ vs) i) (gives (unwrap_or (slice_get (v ∷ vs) i) v))) (safe_pick n (length (v ∷ vs))) (λ i k le w.
+    safe_then k Free IsWithin (take_part place (v ∷ vs) i) (gives (unwrap_or (slice_get (v ∷ vs) i) v)) (take_safe place k (v ∷ vs) i (are_on n k (v ∷ vs) le h)) (λ j le'.
     safe_on k j IsWithin (gives (unwrap_or (slice_get (v ∷ vs) i) v)) le' (safe_gives k (unwrap_or (slice_get (v ∷ vs) i) v) (or_within k (slice_get (v ∷ vs) i) v (get_within k (v ∷ vs) i (are_on n k (v ∷ vs) le h)) (within_on n k v le h.0)))))
 pops_safe p place n o h = pop_one p n o h
 
 removes_safe : (place n : ℕ) (o : Object) → ObjectWithin n o → Safe n IsWithin (removes place o)
 removes_safe place n (object.list site []) h = safe_raise n IsWithin (codes "ValueError")
 removes_safe place n (object.list site (v ∷ vs)) h =
-    safe_bind n Free IsWithin (pick (length (v ∷ vs))) (λ i. then_do (take_part place site (v ∷ vs) i) gives_none) (safe_pick n (length (v ∷ vs))) (λ i k le w.
-    safe_then k Free IsWithin (take_part place site (v ∷ vs) i) gives_none (take_safe place site k (v ∷ vs) i (are_on n k (v ∷ vs) le h)) (λ j le'. none_safe j))
+    safe_bind n Free IsWithin (pick (length (v ∷ vs))) (λ i. then_do (take_part place (v ∷ vs) i) gives_none) (safe_pick n (length (v ∷ vs))) (λ i k le w.
+    safe_then k Free IsWithin (take_part place (v ∷ vs) i) gives_none (take_safe place k (v ∷ vs) i (are_on n k (v ∷ vs) le h)) (λ j le'. none_safe j))
 removes_safe place n _ h = none_safe n
 
 clears_safe : (place n : ℕ) (o : Object) → Safe n IsWithin (clears place o)
-clears_safe place n (object.list site vs) = safe_then n Free IsWithin (replace place (object.list site [])) gives_none (safe_replace n place (object.list site []) tt) (λ k le. none_safe k)
-clears_safe place n (object.dict site qs) = safe_then n Free IsWithin (replace place (object.dict site [])) gives_none (safe_replace n place (object.dict site []) tt) (λ k le. none_safe k)
+clears_safe place n (object.list site vs) = safe_then n Free IsWithin (refill place (object.of_values [])) gives_none (safe_refill n place (object.of_values []) tt) (λ k le. none_safe k)
+clears_safe place n (object.dict site qs) = safe_then n Free IsWithin (refill place (object.of_pairs [])) gives_none (safe_refill n place (object.of_pairs []) tt) (λ k le. none_safe k)
 clears_safe place n _ = none_safe n
 
 -- ---- single pairs
@@ -388,7 +388,7 @@ default_safe p place n vs o a h =
     (λ j le'. safe_gives j (argument_or vs 1 none) (argument_within j vs 1 none (are_on k j vs le' (are_on n k vs le a)) tt))))
 
 pair_taken_safe : (place n i : ℕ) (o : Object) → ObjectWithin n o → Safe n Free (pair_taken place i o)
-pair_taken_safe place n i (object.dict site qs) h = safe_replace n place (object.dict site (remove qs i)) (remove_pairs n qs i h)
+pair_taken_safe place n i (object.dict site qs) h = safe_refill n place (object.of_pairs (remove qs i)) (remove_pairs n qs i h)
 pair_taken_safe place n i (object.list site vs) h = safe_done n
 pair_taken_safe place n i _ h = safe_done n
 
@@ -461,32 +461,29 @@ builtin_value_safe n name =
     safe_option n IsWithin (function_number name) (λ i. if bytes_eq name (codes "base_init") then anything else native_value i (slice_get natives i)) anything
     (λ i. safe_if n IsWithin (bytes_eq name (codes "base_init")) anything (native_value i (slice_get natives i)) (safe_anything n) (native_value_safe n i (slice_get natives i))) (safe_anything n)
 
-global_safe : (p : Program) (m : Memory) (name : ℕ) → Good m → Safe (size m) IsWithin (global_value p m name)
-global_safe p m name good =
-    safe_if (size m) IsWithin (is_bound p name) (found_or (codes "NameError") (entry m.globals name)) (builtin_value (text_at p name)) (found_or_safe (codes "NameError") (size m) (entry m.globals name) (entry_within (size m) m.globals name good.globals)) (builtin_value_safe (size m) (text_at p name))
+global_safe : (p : Program) (n : ℕ) (c : Scope) (name : ℕ) → ScopeWithin n c → Safe n IsWithin (global_value p c name)
+global_safe p n c name good =
+    safe_if n IsWithin (is_bound p name) (found_or (codes "NameError") (entry c.globals name)) (builtin_value (text_at p name)) (found_or_safe (codes "NameError") n (entry c.globals name) (entry_within n c.globals name good.globals)) (builtin_value_safe n (text_at p name))
 
-in_frame_safe : (p : Program) (m : Memory) (name : ℕ) (o : Option Frame) → Good m → FrameWithin (size m) o → Safe (size m) IsWithin (value_in_frame p m name o)
-in_frame_safe p m name None good h = global_safe p m name good
-in_frame_safe p m name (Some f) good h =
-    safe_if (size m) IsWithin (is_local p f.function name) (found_or (codes "UnboundLocalError") (entry f.locals name)) (global_value p m name) (found_or_safe (codes "UnboundLocalError") (size m) (entry f.locals name) (entry_within (size m) f.locals name h)) (global_safe p m name good)
+in_frame_safe : (p : Program) (n : ℕ) (c : Scope) (name : ℕ) (o : Option Frame) → ScopeWithin n c → FrameWithin n o → Safe n IsWithin (value_in_frame p c name o)
+in_frame_safe p n c name None good h = global_safe p n c name good
+in_frame_safe p n c name (Some f) good h =
+    safe_if n IsWithin (is_local p f.function name) (found_or (codes "UnboundLocalError") (entry f.locals name)) (global_value p c name) (found_or_safe (codes "UnboundLocalError") n (entry f.locals name) (entry_within n f.locals name h)) (global_safe p n c name good)
 
 pub load_safe : (p : Program) (n name : ℕ) → Safe n IsWithin (load p name)
 load_safe p n name =
-    safe_bind n Free IsWithin may_raise (λ x. looks (λ m. value_in_frame p m name m.frame)) (safe_may n) (λ x k le w. safe_looks k IsWithin (λ m. value_in_frame p m name m.frame) (λ m good le'. in_frame_safe p m name m.frame good good.frame))
+    safe_bind n Free IsWithin may_raise (λ x. looks (λ m. value_in_frame p m.scope name m.scope.frame)) (safe_may n) (λ x k le w.
+    safe_looks k IsWithin (λ m. value_in_frame p m.scope name m.scope.frame) (λ m good le'. in_frame_safe p (size m) m.scope name m.scope.frame good.scope good.scope.frame))
 
 -- a change of names, where the entries that it gives are within the heap
-pub changed_good : (p : Program) (name : ℕ) (f : Entries → Entries) (m : Memory) → Good m → ((es : Entries) → EntriesWithin (size m) es → EntriesWithin (size m) (f es)) → (o : Option Frame) → FrameWithin (size m) o →
-    (size m ≤ size (changed_in_frame p name f o m)) × Good (changed_in_frame p name f o m)
-changed_good p name f m good h None w = (omega arith, record { heap = good.heap; globals = h m.globals good.globals; frame = good.frame; handled = good.handled })
-changed_good p name f m good h (Some fr) w = local_or (is_local p fr.function name)
+pub changed_within : (p : Program) (n name : ℕ) (f : Entries → Entries) (c : Scope) → ScopeWithin n c → ((es : Entries) → EntriesWithin n es → EntriesWithin n (f es)) → (o : Option Frame) → FrameWithin n o → ScopeWithin n (changed_in_frame p name f o c)
+changed_within p n name f c good h None w = record { globals = h c.globals good.globals; frame = good.frame; handled = good.handled }
+changed_within p n name f c good h (Some fr) w = local_or (is_local p fr.function name)
   where
-    local_or : (b : Bool) → (size m ≤ size (if b then with_locals f fr m else with_globals f m)) × Good (if b then with_locals f fr m else with_globals f m)
-    local_or true = (omega arith, record { heap = good.heap; globals = good.globals; frame = h fr.locals w; handled = good.handled })
-    local_or false = (omega arith, record { heap = good.heap; globals = h m.globals good.globals; frame = good.frame; handled = good.handled })
+    local_or : (b : Bool) → ScopeWithin n (if b then with_locals f fr c else with_globals f c)
+    local_or true = record { globals = good.globals; frame = h fr.locals w; handled = good.handled }
+    local_or false = record { globals = h c.globals good.globals; frame = good.frame; handled = good.handled }
 
 pub store_safe : (p : Program) (n name : ℕ) (v : Value) → IsWithin n v → Safe n Free (store p name v)
-store_safe p n name v a = record {
-  keeps = λ m good le.
-      let c : (size m ≤ size (bound p name v m)) × Good (bound p name v m) = changed_good p name (λ es. with_entry es name v) m good (λ es h. with_entry_within (size m) es name v h (within_on n (size m) v le a)) m.frame good.frame in
-      (c.0, c.1, tt);
-}
+store_safe p n name v a =
+    safe_changes n Free (bound p name v) done (λ c k le good. changed_within p k name (λ es. with_entry es name v) c good (λ es h. with_entry_within k es name v h (within_on n k v le a)) c.frame good.frame) (safe_done n)

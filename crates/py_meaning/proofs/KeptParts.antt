@@ -28,9 +28,9 @@ use Rattle.py_meaning.specs.Subscripts.{read_one, part_of, value_in, value_at, r
 use Rattle.py_meaning.specs.Attributes as attribute
 use Rattle.py_meaning.specs.Attributes.{lacks, is_init, members_if, members_of, look_up, bound_object, bound_to, base_init, native_attribute, kind_attribute, otherwise_of_instance, instance_attribute, class_attribute, item_value, module_attribute, member_value, after_bases, stub_attribute, foreign_attribute, outside_attribute, object_attribute, read_attribute, takes_attributes, store_attribute, after_class, first_binding, super_member, super_of_object, super_attribute}
 use Rattle.py_meaning.specs.ClassTests.{Test, yes_it_has, no_it_lacks, perhaps, decided, test_class, class_of_object, tuple_parts, some_part, part_test, may_match_with, may_match, tuple_test, object_test, matches_object, matches, may_pass}
-use Rattle.py_meaning.specs.Actions.{Memory, Action, gives, looks, bind, allocate, replace, anything, is_even, pick, one_of, raise_builtin}
+use Rattle.py_meaning.specs.Actions.{Memory, Action, gives, looks, bind, allocate, refill, anything, is_even, pick, one_of, raise_builtin}
 use Rattle.py_meaning.specs.References.{IsWithin, AreWithin, EntriesWithin, PairsWithin, OptionWithin, ObjectWithin, ObjectsWithin}
-use Rattle.py_meaning.proofs.Kept.{within_on, are_on, pairs_on, object_on, size, Good, Safe, Free, safe_bind, safe_takes, safe_looks, safe_if, safe_allocate, safe_done, safe_replace, safe_at, object_within, safe_pick, safe_anything, safe_raise, safe_fails, safe_tells, safe_may, safe_option, safe_found, safe_gives, safe_gives_all, get_within, set_within, entry_within, with_entry_within}
+use Rattle.py_meaning.proofs.Kept.{safe_give, within_on, are_on, pairs_on, object_on, size, Good, Safe, Free, safe_bind, safe_takes, safe_looks, safe_if, safe_allocate, safe_done, safe_refill, safe_at, object_within, safe_pick, safe_anything, safe_raise, safe_fails, safe_tells, safe_may, safe_option, safe_found, safe_gives, safe_gives_all, get_within, set_within, entry_within, with_entry_within}
 use Rattle.py_meaning.proofs.KeptValues.{text_safe, octets_safe, kind_safe, row_value_safe, fresh_safe, ContentWithin, ContentsWithin, ContentPairsWithin, contents_on, contents_within, contents_at_within, content_pairs_within, read_safe, read_all_safe, StepWithin, iterate_safe, drain_safe}
 
 -- ---- subscripts: what is read
@@ -53,8 +53,8 @@ gives_content : (n : ℕ) (cs : List Content) → ContentsWithin n cs → Safe n
 gives_content n cs h = safe_bind n Free OneWithin (pick (length cs)) _ (safe_pick n (length cs)) (λ i k le w. gives_one k (slice_get cs i) (one_within k cs i (contents_on n k cs le h)))
   where
     gives_one : (n : ℕ) (o : Option Content) → OneWithin n o → Safe n OneWithin (gives o)
-    gives_one n None h = record { keeps = λ m good le. tt }
-    gives_one n (Some c) h = record { keeps = λ m good le. (contents_on n (size m) (c ∷ []) le (h, tt)).0 }
+    gives_one n None h = safe_give n OneWithin None (λ k le. tt)
+    gives_one n (Some c) h = safe_give n OneWithin (Some c) (λ k le. (contents_on n k (c ∷ []) le (h, tt)).0)
 
 pub part_safe : (p : Program) (n : ℕ) (cs : List Content) → ContentsWithin n cs → Safe n IsWithin (part_of p cs)
 part_safe p n cs h = safe_bind n OneWithin IsWithin _ _ (gives_content n cs h) (λ o k le w. read_one_safe p _ k o w)
@@ -73,8 +73,8 @@ value_of_pair p n None h = safe_raise n IsWithin _
 value_of_pair p n (Some q) h = read_safe p n q.1 h.1
 
 pair_gives : (n : ℕ) (o : Option Pair) → OnePairWithin n o → Safe n OnePairWithin (gives o)
-pair_gives n None h = record { keeps = λ m good le. tt }
-pair_gives n (Some q) h = record { keeps = λ m good le. ((contents_on n (size m) (q.0 ∷ []) le (h.0, tt)).0, (contents_on n (size m) (q.1 ∷ []) le (h.1, tt)).0) }
+pair_gives n None h = safe_give n OnePairWithin None (λ k le. tt)
+pair_gives n (Some q) h = safe_give n OnePairWithin (Some q) (λ k le. ((contents_on n k (q.0 ∷ []) le (h.0, tt)).0, (contents_on n k (q.1 ∷ []) le (h.1, tt)).0))
 
 content_pairs_later : (n k : ℕ) (o : Object) → n ≤ k → ObjectWithin n o → ContentPairsWithin k (pairs o)
 content_pairs_later n k o le h = content_pairs_within k o (object_on n k o le h)
@@ -102,9 +102,9 @@ read_item_safe p line n v i =
 
 -- ---- subscripts: what is stored
 
-store_part_safe : (place site n : ℕ) (vs : List Value) (v : Value) → AreWithin n vs → IsWithin n v → Safe n Free (store_part place site vs v)
-store_part_safe place site n [] v h k = safe_raise n Free _
-store_part_safe place site n (x ∷ xs) v h k = safe_bind n Free Free (pick (length (x ∷ xs))) (λ i. replace place (object.list site (slice_set (x ∷ xs) i v))) (safe_pick n (length (x ∷ xs))) (λ i j le w. safe_replace j place (object.list site (slice_set (x ∷ xs) i v)) (set_within j (x ∷ xs) i v (are_on n j (x ∷ xs) le h) (within_on n j v le k)))
+store_part_safe : (place n : ℕ) (vs : List Value) (v : Value) → AreWithin n vs → IsWithin n v → Safe n Free (store_part place vs v)
+store_part_safe place n [] v h k = safe_raise n Free _
+store_part_safe place n (x ∷ xs) v h k = safe_bind n Free Free (pick (length (x ∷ xs))) (λ i. refill place (object.of_values (slice_set (x ∷ xs) i v))) (safe_pick n (length (x ∷ xs))) (λ i j le w. safe_refill j place (object.of_values (slice_set (x ∷ xs) i v)) (set_within j (x ∷ xs) i v (are_on n j (x ∷ xs) le h) (within_on n j v le k)))
 
 with_pair_within : (n : ℕ) (qs : List (Value × Value)) (i : ℕ) (k v : Value) → PairsWithin n qs → IsWithin n k → IsWithin n v → PairsWithin n (with_pair qs i k v)
 with_pair_within n [] i k v h a b = (a, b, tt)
@@ -112,9 +112,9 @@ with_pair_within n (q ∷ qs) zero k v h a b = (h.0, b, h.2)
 with_pair_within n (q ∷ qs) (suc i) k v h a b = (h.0, h.1, with_pair_within n qs i k v h.2 a b)
 
 store_object_safe : (place line n : ℕ) (i v : Value) (o : Object) → ObjectWithin n o → IsWithin n i → IsWithin n v → Safe n Free (subscript.store_in_object place line i v o)
-store_object_safe place line n i v (object.list site xs) h a b = store_part_safe place site n xs v h b
+store_object_safe place line n i v (object.list site xs) h a b = store_part_safe place n xs v h b
 store_object_safe place line n i v (object.dict site qs) h a b =
-    safe_bind n Free Free (pick (suc (length qs))) (λ c. replace place (object.dict site (with_pair qs c i v))) (safe_pick n (suc (length qs))) (λ c j le w. safe_replace j place (object.dict site (with_pair qs c i v)) (with_pair_within j qs c i v (pairs_on n j qs le h) (within_on n j i le a) (within_on n j v le b)))
+    safe_bind n Free Free (pick (suc (length qs))) (λ c. refill place (object.of_pairs (with_pair qs c i v))) (safe_pick n (suc (length qs))) (λ c j le w. safe_refill j place (object.of_pairs (with_pair qs c i v)) (with_pair_within j qs c i v (pairs_on n j qs le h) (within_on n j i le a) (within_on n j v le b)))
 store_object_safe place line n i v (object.outside (term.list t)) h a b = safe_done n
 store_object_safe place line n i v (object.outside (term.dict t u)) h a b = safe_done n
 store_object_safe place line n i v o h a b = safe_if n Free (is_unfollowed o) _ _ (safe_done n) (safe_fails n Free line unsupported_operands)
@@ -315,8 +315,8 @@ attribute_safe p line n none name a = safe_looks n IsWithin _ (λ m good le. kin
 attribute_safe p line n v name a = safe_looks n IsWithin _ (λ m good le. kind_attribute_safe p line (size m) v (object.kind_of m.heap v) on_another name (within_on n (size m) v le a))
 
 store_attribute_object_safe : (place line name n : ℕ) (v : Value) (o : Object) → IsWithin n v → ObjectWithin n o → Safe n Free (attribute.store_in_object place line name v o)
-store_attribute_object_safe place line name n v (object.instance c es) a h = safe_replace n place _ (with_entry_within n es name v h a)
-store_attribute_object_safe place line name n v (object.class c es) a h = safe_replace n place _ (with_entry_within n es name v h a)
+store_attribute_object_safe place line name n v (object.instance c es) a h = safe_refill n place _ (with_entry_within n es name v h a)
+store_attribute_object_safe place line name n v (object.class c es) a h = safe_refill n place _ (with_entry_within n es name v h a)
 store_attribute_object_safe place line name n v o a h = safe_if n Free (takes_attributes o) _ _ (safe_done n) (lacks_safe n Free line _ name)
 
 pub store_attribute_safe : (line n : ℕ) (c : Value) (name : ℕ) (v : Value) → IsWithin n v → Safe n Free (store_attribute line c name v)
@@ -342,9 +342,9 @@ super_safe p line n own _ name a = safe_anything n
 -- ---- tests of classes
 
 pub decided_safe : (n : ℕ) (t : Test) → Safe n Free (decided t)
-decided_safe n yes_it_has = record { keeps = λ m good le. tt }
-decided_safe n no_it_lacks = record { keeps = λ m good le. tt }
-decided_safe n perhaps = record { keeps = λ m good le. λ c. tt }
+decided_safe n yes_it_has = safe_give n Free true (λ k le. tt)
+decided_safe n no_it_lacks = safe_give n Free false (λ k le. tt)
+decided_safe n perhaps = safe_takes n Free _ (λ c. safe_give n Free (is_even c) (λ k le. tt))
 
 abbrev PartsWithin : ℕ → Option (Action (List Value)) → Type 0
 PartsWithin n None = Unit {0}
@@ -357,7 +357,7 @@ tuple_parts_within p n (object.outside (term.tuple_of t)) h = read_all_safe p n 
 tuple_parts_within p n _ h = tt
 
 free_gives : {A : Type 0} (n : ℕ) (x : A) → Safe n Free (gives x)
-free_gives n x = record { keeps = λ m good le. tt }
+free_gives n x = safe_give n Free x (λ k le. tt)
 
 -- what looks at values within the heap
 abbrev Looks : (Value → Action Bool) → Type 0

@@ -2,6 +2,7 @@
 use Rattle.std.proofs.Common.{ℕ, zero, suc, ◌+◌, ◌≤◌, ◌<◌, Bool, true, false, ◌&&◌, List, [], ◌∷◌, length, Option, Some, None, slice_get, unwrap_or, arith}
 use Rattle.std.specs.Prelude.{codes, is_some, nat_eq}
 use Rattle.std.specs.List.{list_any}
+use Rattle.std.proofs.lemmas.List.Elements.{All-nil}
 use Rattle.type_terms.specs.Terms as term
 use Rattle.py_tree.specs.declared.literal.Literal.{Literal}
 use Rattle.py_tree.specs.Tree.{Param}
@@ -17,14 +18,16 @@ use Rattle.py_meaning.specs.Natives.{call_by_texts}
 use Rattle.py_meaning.specs.Expressions.{value_of_flow}
 use Rattle.py_meaning.specs.Targets.{put}
 use Rattle.py_meaning.specs.Statements.{exec_all, run_while, run_for, once_more}
-use Rattle.py_meaning.specs.Calls.{default_value, argument_value, source_value, parameters_bound, with_frame, in_frame, told_return, enter, enter_matched, match_row, call_function, start_instance, instance_matched, plain_arguments, make_plain, make_with, make_instance, match_stub, given_or_fault, call_stub_fun, call_stub_class, call_stub_method, call_foreign, call_object, call_any, outside_value, outside_values, outside_locals, enter_from_outside, finds_at, receivers_if, receivers, method_from_outside, function_from_outside, instance_from_outside, class_from_outside, call_from_outside, returning, perform}
-use Rattle.py_meaning.specs.Actions.{Frame, Memory, Argument, Flow, returns, OutsideCall, calls_function, calls_class, Request, call, while_turn, for_turn, outside_call, Outcome, came, threw, Action, gives, raises, takes, counts, turn, looks, becomes, tells, bind, then_do, changes, afterwards, allocate, anything, pick, one_of, fails, done}
-use Rattle.py_meaning.specs.Runs.{State, Answer, gave, raised, stopped, with_memory, with_event, with_choices, with_turns, after_turn, take_choice, carry_out, begin_turn, turns_within, no_memory, start, tell_if, tell_names, module_action, can_be_called, call_if, make_calls, run_of, answer, run}
+use Rattle.py_meaning.specs.Calls.{default_value, argument_value, source_value, parameters_bound, with_frame, told_return, enter, enter_matched, match_row, call_function, start_instance, instance_matched, plain_arguments, make_plain, make_with, make_instance, match_stub, given_or_fault, call_stub_fun, call_stub_class, call_stub_method, call_foreign, call_object, call_any, outside_value, outside_values, outside_locals, enter_from_outside, finds_at, receivers_if, receivers, method_from_outside, function_from_outside, instance_from_outside, class_from_outside, call_from_outside, returning, perform}
+use Rattle.py_meaning.specs.Actions.{Frame, Scope, Memory, Argument, Flow, returns, OutsideCall, calls_function, calls_class, Request, call, while_turn, for_turn, outside_call, Action, gives, looks, bind, then_do, changes, allocate, anything, pick, one_of, fails, done}
+use Rattle.py_meaning.specs.Runs.{Answer, gave, raised, stopped, carry_out, scope_after, turns_within, no_memory, start, tell_if, tell_names, module_action, can_be_called, call_if, make_calls, run_of, answer, run}
+use Rattle.py_meaning.specs.Holds.{Holds, HoldsAfter}
 use Rattle.py_meaning.specs.References.{IsWithin, AreWithin, EntriesWithin, OptionWithin, ObjectWithin, ObjectsWithin, ReferencesPointIn}
-use Rattle.py_meaning.proofs.Kept.{within_on, are_on, option_on, entries_on, FrameWithin, frame_on, size, Good, Keeps, Safe, Free, ArgumentsWithin, RequestWithin, FlowWithin, OutcomeWithin, safe_bind, safe_then, safe_looks, safe_if, safe_allocate, safe_done, safe_at, safe_pick, safe_anything, safe_fails, safe_tells, safe_option, safe_gives, get_within}
+use Rattle.py_meaning.proofs.Holding.{GaveInside, RaisedInside, left_by, holds_map, runs_hold}
+use Rattle.py_meaning.proofs.Kept.{pointing, pointing_lasts, Ended, ScopeWithin, safe_changes, safe_give, within_on, are_on, option_on, entries_on, frame_on, size, Good, Safe, Free, ArgumentsWithin, RequestWithin, FlowWithin, safe_bind, safe_then, safe_looks, safe_if, safe_allocate, safe_done, safe_at, safe_pick, safe_anything, safe_fails, safe_tells, safe_option, safe_gives, get_within}
 use Rattle.py_meaning.proofs.KeptValues.{fresh_safe}
 use Rattle.py_meaning.proofs.KeptNatives.{arguments_on, call_native_safe}
-use Rattle.py_meaning.proofs.KeptStatements.{safe_turn, safe_changes, safe_afterwards, flow_value, literal_within, may_then, put_safe, gives_flow, once_more_safe, while_safe, for_safe, exec_all_safe}
+use Rattle.py_meaning.proofs.KeptStatements.{safe_turn, flow_value, literal_within, may_then, put_safe, gives_flow, once_more_safe, while_safe, for_safe, exec_all_safe}
 
 -- ---- functions of the module
 
@@ -48,22 +51,16 @@ bound_within n v as' [] (s ∷ ss) a b = tt
 bound_within n v as' (q ∷ qs) [] a b = tt
 bound_within n v as' (q ∷ qs) (s ∷ ss) a b = (source_within n v as' q s a b, bound_within n v as' qs ss a b)
 
-frame_good : (n : ℕ) (o : Option Frame) (m : Memory) → Good m → n ≤ size m → FrameWithin n o → (size m ≤ size (with_frame o m)) × Good (with_frame o m)
-frame_good n o m good le h = (omega arith, record { heap = good.heap; globals = good.globals; frame = frame_on n (size m) o le h; handled = good.handled })
-
-in_frame_safe : (n : ℕ) (f : Frame) (a : Action Value) → EntriesWithin n f.locals → ((k : ℕ) → n ≤ k → Safe k IsWithin a) → Safe n IsWithin (in_frame f a)
-in_frame_safe n f a w h =
-    safe_looks n IsWithin (λ m. changes (with_frame (Some f)) (afterwards a (with_frame m.frame))) (λ m good le.
-    safe_changes (size m) IsWithin (with_frame (Some f)) (afterwards a (with_frame m.frame)) (λ u gu le'. frame_good n (Some f) u gu (omega arith) w)
-    (safe_afterwards (size m) IsWithin a (with_frame m.frame) safe_gives (λ u gu le'. frame_good (size m) m.frame u gu le' good.frame) (h (size m) le)))
+in_frame_safe : (n : ℕ) (f : Frame) (a : Action Value) → EntriesWithin n f.locals → Safe n IsWithin a → Safe n IsWithin (changes (with_frame f) a)
+in_frame_safe n f a w h = safe_changes n IsWithin (with_frame f) a (λ c k le good. record { globals = good.globals; frame = entries_on n k f.locals le w; handled = good.handled }) h
 
 told_safe : (n f : ℕ) (flow : Flow) → FlowWithin n flow → Safe n IsWithin (told_return f flow)
 told_safe n f flow h = safe_tells n IsWithin (returned f (value_of_flow flow)) (gives (value_of_flow flow)) (safe_gives n (value_of_flow flow) (flow_value n flow h))
 
 enter_safe : (p : Program) (f n : ℕ) (row : FunRow) (locals : Entries) → EntriesWithin n locals → Safe n IsWithin (enter p f row locals)
 enter_safe p f n row locals h =
-    in_frame_safe n (record { function = f; locals = locals }) (bind (exec_all p row.body) (told_return f)) h (λ k le.
-    safe_bind k FlowWithin IsWithin (exec_all p row.body) (told_return f) (exec_all_safe p row.body k) (λ flow j le' w. told_safe j f flow w))
+    in_frame_safe n (record { function = f; locals = locals }) (bind (exec_all p row.body) (told_return f)) h
+    (safe_bind n FlowWithin IsWithin (exec_all p row.body) (told_return f) (exec_all_safe p row.body n) (λ flow j le w. told_safe j f flow w))
 
 enter_matched_safe : (p : Program) (f line n : ℕ) (row : FunRow) (v : Value) (as' : List Argument) (x : Matched) → IsWithin n v → ArgumentsWithin n as' → Safe n IsWithin (enter_matched p f line row v as' x)
 enter_matched_safe p f line n row v as' (mismatch kind) a b = safe_fails n IsWithin line kind
@@ -159,7 +156,7 @@ outside_value_safe names q n =
     safe_if n IsWithin (is_some q.default && list_any (nat_eq q.name) names) (gives (default_value q)) anything (safe_gives n (default_value q) (default_of n q.default)) (safe_anything n)
 
 gives_entries : (n : ℕ) (es : Entries) → EntriesWithin n es → Safe n EntriesWithin (gives es)
-gives_entries n es h = record { keeps = λ m good le. entries_on n (size m) es le h }
+gives_entries n es h = safe_give n EntriesWithin es (λ k le. entries_on n k es le h)
 
 outside_values_safe : (names : List ℕ) (qs : List Param) (n : ℕ) → Safe n EntriesWithin (outside_values names qs)
 outside_values_safe names [] n = gives_entries n [] tt
@@ -185,7 +182,7 @@ receivers_within p row owner n place [] le = tt
 receivers_within p row owner n place (o ∷ os) le = receivers_if_within n (finds_at p row owner o) place (receivers p row owner (suc place) os) (omega arith) (receivers_within p row owner n (suc place) os (omega arith))
 
 option_gives : (n : ℕ) (o : Option Value) → OptionWithin n o → Safe n OptionWithin (gives o)
-option_gives n o h = record { keeps = λ m good le. option_on n (size m) o le h }
+option_gives n o h = safe_give n OptionWithin o (λ k le. option_on n k o le h)
 
 one_value : (n : ℕ) (vs : List Value) → AreWithin n vs → Safe n OptionWithin (one_of vs)
 one_value n vs h = safe_bind n Free OptionWithin (pick (length vs)) (λ i. gives (slice_get vs i)) (safe_pick n (length vs)) (λ i k le w. option_gives k (slice_get vs i) (get_within k vs i (are_on n k vs le h)))
@@ -228,49 +225,20 @@ perform_safe p (outside_call c) n h = returning_safe n (call_from_outside p c) (
 
 -- ---- runs
 
-abbrev After : {A : Type 0} → (ℕ → A → Type 0) → ℕ → Answer A → Type 0
-After P n (gave a s) = (n ≤ size s.memory) × Good s.memory × P (size s.memory) a
-After P n (raised v s) = (n ≤ size s.memory) × Good s.memory × IsWithin (size s.memory) v
-After P n (stopped why s) = (n ≤ size s.memory) × Good s.memory
+-- the caller's frame was within the heap, which has grown
+scope_after_within : (n k : ℕ) (q : Request) (before c : Scope) → n ≤ k → ScopeWithin n before → ScopeWithin k c → ScopeWithin k (scope_after q before c)
+scope_after_within n k (call f as' site line) before c le h good = record { globals = good.globals; frame = frame_on n k before.frame le h.frame; handled = option_on n k before.handled le h.handled }
+scope_after_within n k (outside_call o) before c le h good = record { globals = good.globals; frame = frame_on n k before.frame le h.frame; handled = option_on n k before.handled le h.handled }
+scope_after_within n k (while_turn test body) before c le h good = good
+scope_after_within n k (for_turn target body line v x) before c le h good = good
 
-after_on : {A : Type 0} (P : ℕ → A → Type 0) (n k : ℕ) (r : Answer A) → n ≤ k → After P k r → After P n r
-after_on P n k (gave a s) le h = let up : k ≤ size s.memory = h.0 in (omega arith, h.1, h.2)
-after_on P n k (raised v s) le h = let up : k ≤ size s.memory = h.0 in (omega arith, h.1, h.2)
-after_on P n k (stopped why s) le h = let up : k ≤ size s.memory = h.0 in (omega arith, h.1)
+left_good : (q : Request) (m u : Memory) → Good m → size m ≤ size u → Good u → Good (left_by pointing q m u)
+left_good q m u good le h = record { heap = h.heap; scope = scope_after_within (size m) (size u) q m.scope u.scope le good.scope h.scope }
 
-after_turn_kept : {A : Type 0} (P : ℕ → A → Type 0) (n : ℕ) (r : Answer Flow) (k : Outcome → State → Answer A) → After FlowWithin n r →
-    ((o : Outcome) (s : State) → n ≤ size s.memory → Good s.memory → OutcomeWithin (size s.memory) o → After P n (k o s)) → After P n (after_turn r k)
-after_turn_kept P n (gave flow s) k h g = g (came flow) s h.0 h.1 h.2
-after_turn_kept P n (raised v s) k h g = g (threw v) s h.0 h.1 h.2
-after_turn_kept P n (stopped why s) k h g = h
-
-take_choice_kept : {A : Type 0} (P : ℕ → A → Type 0) (cs : List ℕ) (k : ℕ → State → Answer A) (s : State) → Good s.memory → ((c : ℕ) (ds : List ℕ) → After P (size s.memory) (k c (with_choices ds s))) → After P (size s.memory) (take_choice cs k s)
-take_choice_kept P [] k s good h = (omega arith, good)
-take_choice_kept P (c ∷ cs) k s good h = h c cs
-
-abbrev TurnsKeep : (Request → State → Answer Flow) → Type 0
-TurnsKeep t = (q : Request) (s : State) → Good s.memory → RequestWithin (size s.memory) q → After FlowWithin (size s.memory) (t q s)
-
-carry_kept : {A : Type 0} (P : ℕ → A → Type 0) (t : Request → State → Answer Flow) → TurnsKeep t → (a : Action A) (s : State) → Good s.memory → Keeps P a s.memory → After P (size s.memory) (carry_out t a s)
-carry_kept P t h (gives a) s good k = (omega arith, good, k)
-carry_kept P t h (raises v) s good k = (omega arith, good, k)
-carry_kept P t h (takes a) s good k = take_choice_kept P s.choices (λ c. carry_out t (a c)) s good (λ c ds. carry_kept P t h (a c) (with_choices ds s) good (k c))
-carry_kept P t h (counts a) s good k = carry_kept P t h (a (length s.choices)) s good (k (length s.choices))
-carry_kept P t h (turn q a) s good k =
-    after_turn_kept P (size s.memory) (t q s) (λ o. carry_out t (a o)) (h q s good k.0) (λ o u le gu w. after_on P (size s.memory) (size u.memory) (carry_out t (a o) u) le (carry_kept P t h (a o) u gu (k.1 o u.memory le gu w)))
-carry_kept P t h (looks a) s good k = carry_kept P t h (a s.memory) s good k
-carry_kept P t h (becomes m a) s good k = after_on P (size s.memory) (size m) (carry_out t a (with_memory m s)) k.0 (carry_kept P t h a (with_memory m s) k.1 k.2)
-carry_kept P t h (tells e a) s good k = carry_kept P t h a (with_event e s) good k
-
-begin_kept : (n : ℕ) (f : State → Answer Flow) (s : State) → Good s.memory → ((k : ℕ) → After FlowWithin (size s.memory) (f (with_turns k s))) → After FlowWithin (size s.memory) (begin_turn n f s)
-begin_kept zero f s good h = (omega arith, good)
-begin_kept (suc n) f s good h = h n
-
-turns_keep : (p : Program) (n : ℕ) → TurnsKeep (turns_within p n)
-unfolding turns_within
-turns_keep p zero q s good w = (omega arith, good)
-turns_keep p (suc n) q s good w =
-    begin_kept s.turns (carry_out (turns_within p n) (perform p q)) s good (λ k. carry_kept FlowWithin (turns_within p n) (turns_keep p n) (perform p q) (with_turns k s) good ((perform_safe p q (size s.memory) w).keeps s.memory good (omega arith)))
+turn_holds : (p : Program) (q : Request) (way g : Unit {0}) (m : Memory) → Good m → RequestWithin (size m) q → Holds pointing (GaveInside pointing q way g m) (RaisedInside pointing q way g m) g m (perform p q)
+turn_holds p q way g m good w =
+    holds_map pointing (Ended (size m) FlowWithin) (GaveInside pointing q way g m) (Ended (size m) IsWithin) (RaisedInside pointing q way g m) (perform p q) g m ((perform_safe p q (size m) w).keeps (size m) m (omega arith) good (omega arith))
+    (λ flow one u e. (e.0, left_good q m u good e.0 e.1, e.2)) (λ v one u e. (e.0, left_good q m u good e.0 e.1, e.2))
 
 -- ---- a run of a module
 
@@ -280,7 +248,7 @@ tell_safe name n (Some v) a h = safe_tells n Free (held name v) a h
 
 tell_names_safe : (names : List ℕ) (n : ℕ) → Safe n Free (tell_names names)
 tell_names_safe [] n = safe_done n
-tell_names_safe (name ∷ names) n = safe_looks n Free (λ m. tell_if name (entry m.globals name) (tell_names names)) (λ m good le. tell_safe name (size m) (entry m.globals name) (tell_names names) (tell_names_safe names (size m)))
+tell_names_safe (name ∷ names) n = safe_looks n Free (λ m. tell_if name (entry m.scope.globals name) (tell_names names)) (λ m good le. tell_safe name (size m) (entry m.scope.globals name) (tell_names names) (tell_names_safe names (size m)))
 
 module_safe : (p : Program) (n : ℕ) → Safe n Free (module_action p)
 module_safe p n = safe_then n FlowWithin Free (exec_all p p.body) (tell_names (printed p)) (exec_all_safe p p.body n) (λ k le. tell_names_safe (printed p) k)
@@ -295,12 +263,12 @@ make_calls_safe p (c ∷ cs) n =
     safe_then n Free Free (looks (λ m. call_if (can_be_called p m.heap c) c)) (make_calls p cs) (safe_looks n Free (λ m. call_if (can_be_called p m.heap c) c) (λ m good le. call_if_safe (can_be_called p m.heap c) c (size m))) (λ k le. make_calls_safe p cs k)
 
 nothing_good : Good no_memory
-nothing_good = record { heap = tt; globals = tt; frame = tt; handled = tt }
+nothing_good = record { heap = tt; scope = record { globals = tt; frame = tt; handled = tt } }
 
-heap_of_answer : (r : Answer (Unit {0})) → After Free 0 r → ObjectsWithin (length (run_of r).heap) (run_of r).heap
-heap_of_answer (gave a s) h = h.1.heap
-heap_of_answer (raised v s) h = h.1.heap
-heap_of_answer (stopped why s) h = h.1.heap
+heap_of_answer : (r : Answer (Unit {0})) → HoldsAfter pointing (Ended 0 Free) (Ended 0 IsWithin) r → ObjectsWithin (length (run_of r).heap) (run_of r).heap
+heap_of_answer (gave a s) h = h.2.1.heap
+heap_of_answer (raised v s) h = h.2.1.heap
+heap_of_answer (stopped why s) h = h.2.heap
 
 pub references_point_in : ReferencesPointIn
 unfolding run answer
@@ -308,4 +276,5 @@ references_point_in m stubs n choices calls =
     let p : Program = program m stubs in
     let a : Action (Unit {0}) = then_do (module_action p) (make_calls p calls) in
     let safe : Safe 0 Free a = safe_then 0 Free Free (module_action p) (make_calls p calls) (module_safe p 0) (λ k le. make_calls_safe p calls k) in
-    heap_of_answer (carry_out (turns_within p n) a (start n choices)) (carry_kept Free (turns_within p n) (turns_keep p n) a (start n choices) nothing_good (safe.keeps no_memory nothing_good (omega arith)))
+    heap_of_answer (carry_out (turns_within p n) a (start n choices))
+    (runs_hold pointing pointing_lasts p (turn_holds p) (Ended 0 Free) (Ended 0 IsWithin) n a tt (start n choices) (All-nil (pointing.Told tt no_memory)) (safe.keeps 0 no_memory (omega arith) nothing_good (omega arith)))

@@ -26,19 +26,19 @@ use Rattle.py_meaning.specs.Subscripts.{read_item, read_slice, store_item, unpac
 use Rattle.py_meaning.specs.Attributes.{read_attribute, store_attribute, super_attribute}
 use Rattle.py_meaning.specs.Names.{builtin_value, load, store, unbound}
 use Rattle.py_meaning.specs.Expressions.{value_of_flow, called, call_value, first_parameter, first_value, super_in, kept_or, chosen, eval, eval_kind, eval_all, eval_bound, eval_args, eval_pairs}
-use Rattle.py_meaning.specs.Targets.{count_of, head_or, tail_of, put, put_kind, put_all, put_each, extend_in_place, repeat_in_place, in_place_object, in_place, augment}
+use Rattle.py_meaning.specs.Targets.{in_own_list, in_outside_list, count_of, head_or, tail_of, put, put_kind, put_all, put_each, extend_in_place, repeat_in_place, in_place_object, in_place, augment}
 use Rattle.py_meaning.specs.Imports.{module_name, module_value, imported_item, bound_name, store_if, import_one, import_all, take_one, take_all}
 use Rattle.py_meaning.specs.Exceptions.{made_exception, is_exception_value, raise_value, raise_made, handled_or_error, raise_again, raise_assertion, with_handled, handling}
 use Rattle.py_meaning.specs.Statements as statements
 use Rattle.py_meaning.specs.Statements.{and_on, then_next, evaluated, returned_value, assertion, annotated_target, annotation, through, run_while, for_step, run_for, once_more, with_member, set_member, put_member, put_members, put_method, put_methods, fill_class, define_class, define_function, named, exec, exec_kind, exec_all, exec_arms, exec_handlers}
-use Rattle.py_meaning.specs.Actions.{Frame, Memory, Argument, Flow, goes_on, breaks, continues, returns, Request, call, while_turn, for_turn, outside_call, Outcome, came, threw, Action, gives, raises, turn, looks, bind, then_do, changes, afterwards, allocate, replace, anything, may_raise, raise_builtin, fails, done}
+use Rattle.py_meaning.specs.Actions.{is_even, Frame, Scope, Argument, Flow, goes_on, breaks, continues, returns, Request, call, while_turn, for_turn, outside_call, Outcome, came, threw, Action, gives, raises, turn, looks, bind, then_do, changes, afterwards, allocate, refill, anything, may_raise, raise_builtin, fails, done}
 use Rattle.py_meaning.specs.References.{IsWithin, AreWithin, EntriesWithin, PairsWithin, OptionWithin, ObjectWithin}
-use Rattle.py_meaning.proofs.Kept.{within_on, are_on, option_on, FrameWithin, size, Good, Safe, Free, ArgumentsWithin, RequestWithin, FlowWithin, OutcomeWithin, safe_attempt, safe_raises, safe_bind, safe_then, safe_looks, safe_if, safe_on, safe_allocate, safe_done, safe_replace, safe_at, safe_anything, safe_raise, safe_fails, safe_may, safe_gives, safe_gives_all, safe_gives_pairs, entry_within, with_entry_within, without_entry_within}
+use Rattle.py_meaning.proofs.Kept.{safe_give, within_on, are_on, option_on, FrameWithin, size, ScopeWithin, Safe, safe_changes, safe_afterwards, Free, ArgumentsWithin, RequestWithin, FlowWithin, OutcomeWithin, safe_attempt, safe_raises, safe_bind, safe_then, safe_takes, safe_looks, safe_if, safe_on, safe_allocate, safe_done, safe_refill, safe_at, safe_anything, safe_raise, safe_fails, safe_may, safe_gives, safe_gives_all, safe_gives_pairs, entry_within, with_entry_within, without_entry_within}
 use Rattle.py_meaning.proofs.KeptValues.{all_held, repeated_safe, binary_safe, unary_safe, compare_safe, StepWithin, iterate_safe, items_safe}
 use Rattle.py_meaning.proofs.KeptParts.{read_item_safe, store_item_safe, slice_safe, unpack_safe, item_value_safe, attribute_safe, store_attribute_safe, super_safe, matches_safe}
-use Rattle.py_meaning.proofs.KeptNatives.{arguments_on, add_parts_safe, builtin_value_safe, load_safe, changed_good, store_safe}
+use Rattle.py_meaning.proofs.KeptNatives.{arguments_on, add_parts_safe, builtin_value_safe, load_safe, changed_within, store_safe}
 
--- ---- turns and changes of memory
+-- ---- turns
 
 pub request_on : (n k : ℕ) (q : Request) → n ≤ k → RequestWithin n q → RequestWithin k q
 request_on n k (call f as' site line) le h = (within_on n k f le h.0, arguments_on n k as' le h.1)
@@ -47,21 +47,9 @@ request_on n k (for_turn target body line v x) le h = (within_on n k v le h.0, w
 request_on n k (outside_call c) le h = tt
 
 pub safe_turn : {A : Type 0} (n : ℕ) (P : ℕ → A → Type 0) (q : Request) (k : Outcome → Action A) → RequestWithin n q → ((o : Outcome) (j : ℕ) → n ≤ j → OutcomeWithin j o → Safe j P (k o)) → Safe n P (turn q k)
-safe_turn n P q k w h = record { keeps = λ m good le. (request_on n (size m) q le w, λ o m' le' good' x. (h o (size m') (omega arith) x).keeps m' good' (omega arith)) }
-
-pub safe_changes : {A : Type 0} (n : ℕ) (P : ℕ → A → Type 0) (f : Memory → Memory) (a : Action A) → ((m : Memory) → Good m → n ≤ size m → (size m ≤ size (f m)) × Good (f m)) → Safe n P a → Safe n P (changes f a)
-safe_changes n P f a g h = record {
-  keeps = λ m good le.
-      let c : (size m ≤ size (f m)) × Good (f m) = g m good le in
-      let up : size m ≤ size (f m) = c.0 in
-      (c.0, c.1, h.keeps (f m) c.1 (omega arith));
+safe_turn n P q k w h = record {
+  keeps = λ base m low good le. (good, (tt, request_on n (size m) q le w, λ o one u e. let up : size m ≤ size u = e.0 in (h o (size u) (omega arith) e.2).keeps base u (omega arith) e.1 (omega arith)));
 }
-
-pub safe_afterwards : {A : Type 0} (n : ℕ) (P : ℕ → A → Type 0) (a : Action A) (f : Memory → Memory) → ((k : ℕ) (x : A) → P k x → Safe k P (gives x)) → ((m : Memory) → Good m → n ≤ size m → (size m ≤ size (f m)) × Good (f m)) → Safe n P a → Safe n P (afterwards a f)
-safe_afterwards n P a f gv g h =
-    safe_attempt n P P a (λ x. changes f (gives x)) (λ v. changes f (raises v)) h
-    (λ x k le w. safe_changes k P f (gives x) (λ m good le'. g m good (omega arith)) (gv k x w))
-    (λ v k le w. safe_changes k P f (raises v) (λ m good le'. g m good (omega arith)) (safe_raises k P v w))
 
 -- ---- calls
 
@@ -103,10 +91,10 @@ chosen_safe n P true a c h k = h
 chosen_safe n P false a c h k = k
 
 free_gives : {A : Type 0} (n : ℕ) (x : A) → Safe n Free (gives x)
-free_gives n x = record { keeps = λ m good le. tt }
+free_gives n x = safe_give n Free x (λ k le. tt)
 
 choice_safe : (n : ℕ) → Safe n Free by_choice
-choice_safe n = record { keeps = λ m good le. λ c. tt }
+choice_safe n = safe_takes n Free _ (λ c. free_gives n (not (is_even c)))
 
 truth_object_safe : (n : ℕ) (o : Object) → Safe n Free (truth_of_object o)
 truth_object_safe n (object.list site vs) = free_gives n _
@@ -141,7 +129,7 @@ may_then n P a h = safe_then n Free P may_raise a (safe_may n) (λ k le. safe_on
 -- ---- expressions
 
 safe_gives_args : (n : ℕ) (as' : List Argument) → ArgumentsWithin n as' → Safe n ArgumentsWithin (gives as')
-safe_gives_args n as' h = record { keeps = λ m good le. arguments_on n (size m) as' le h }
+safe_gives_args n as' h = safe_give n ArgumentsWithin as' (λ k le. arguments_on n k as' le h)
 
 -- an operand, and its truth
 with_truth : {A : Type 0} (n : ℕ) (P : ℕ → A → Type 0) (a : Action Value) (f : Value → Bool → Action A) → Safe n IsWithin a → ((v : Value) (t : Bool) (k : ℕ) → n ≤ k → IsWithin k v → Safe k P (f v t)) → Safe n P (bind a (λ v. bind (truth_of v) (f v)))
@@ -170,7 +158,7 @@ mutual
   eval_kind_safe p (tree.attr a i) line site n =
       safe_bind n IsWithin IsWithin (eval p a) (λ v. then_do may_raise (read_attribute p line v i)) (eval_safe p a n) (λ v k le w. may_then k IsWithin (read_attribute p line v i) (attribute_safe p line k v i w))
   eval_kind_safe p (tree.super i) line site n =
-      may_then n IsWithin (looks (λ m. super_in p line i m.frame)) (safe_looks n IsWithin (λ m. super_in p line i m.frame) (λ m good le. super_in_safe p line i (size m) m.frame good.frame))
+      may_then n IsWithin (looks (λ m. super_in p line i m.scope.frame)) (safe_looks n IsWithin (λ m. super_in p line i m.scope.frame) (λ m good le. super_in_safe p line i (size m) m.scope.frame good.scope.frame))
   eval_kind_safe p (tree.item a i) line site n =
       safe_bind n IsWithin IsWithin (eval p a) (λ v. bind (eval p i) (λ w. then_do may_raise (read_item p line v w))) (eval_safe p a n) (λ v k le x.
       safe_bind k IsWithin IsWithin (eval p i) (λ w. then_do may_raise (read_item p line v w)) (eval_safe p i k) (λ w j le' y. may_then j IsWithin (read_item p line v w) (read_item_safe p line j v w)))
@@ -251,17 +239,25 @@ extend_safe p line place n w a b =
     safe_then k Free IsWithin (add_parts place ws) (gives (ref place)) (add_parts_safe place k ws x) (λ j le''. safe_gives j (ref place) (within_on n j (ref place) (omega arith) a))))
     (safe_fails (size m) IsWithin line not_iterable))
 
-repeat_safe : (p : Program) (place site n : ℕ) (vs : List Value) → IsWithin n (ref place) → AreWithin n vs → Safe n IsWithin (repeat_in_place p place site vs)
-repeat_safe p place site n vs a b =
-    safe_bind n AreWithin IsWithin (repeated p (map held vs)) (λ ws. then_do (replace place (object.list site ws)) (gives (ref place))) (repeated_safe p n (map held vs) (all_held n vs b)) (λ ws k le w.
-    safe_then k Free IsWithin (replace place (object.list site ws)) (gives (ref place)) (safe_replace k place (object.list site ws) w) (λ j le'. safe_gives j (ref place) (within_on n j (ref place) (omega arith) a)))
+repeat_safe : (p : Program) (place n : ℕ) (vs : List Value) → IsWithin n (ref place) → AreWithin n vs → Safe n IsWithin (repeat_in_place p place vs)
+repeat_safe p place n vs a b =
+    safe_bind n AreWithin IsWithin (repeated p (map held vs)) (λ ws. then_do (refill place (object.of_values ws)) (gives (ref place))) (repeated_safe p n (map held vs) (all_held n vs b)) (λ ws k le w.
+    safe_then k Free IsWithin (refill place (object.of_values ws)) (gives (ref place)) (safe_refill k place (object.of_values ws) w) (λ j le'. safe_gives j (ref place) (within_on n j (ref place) (omega arith) a)))
+
+own_list_safe : (p : Program) (op : BinOp) (site line place n : ℕ) (w : Value) (vs : List Value) → IsWithin n (ref place) → IsWithin n w → AreWithin n vs → Safe n IsWithin (in_own_list p op site line place w vs)
+own_list_safe p bin.Add site line place n w vs a b h = extend_safe p line place n w a b
+own_list_safe p bin.Mul site line place n w vs a b h =
+    safe_if n IsWithin (is_whole w) (repeat_in_place p place vs) (binary p bin.Mul site line (ref place) w) (repeat_safe p place n vs a h) (binary_safe p bin.Mul site line n (ref place) w)
+own_list_safe p op site line place n w vs a b h = binary_safe p op site line n (ref place) w
+
+outside_list_safe : (p : Program) (op : BinOp) (site line place n : ℕ) (w : Value) → IsWithin n (ref place) → Safe n IsWithin (in_outside_list p op site line place w)
+outside_list_safe p bin.Add site line place n w a = safe_gives n (ref place) a
+outside_list_safe p bin.Mul site line place n w a = safe_gives n (ref place) a
+outside_list_safe p op site line place n w a = binary_safe p op site line n (ref place) w
 
 in_place_object_safe : (p : Program) (op : BinOp) (site line place n : ℕ) (w : Value) (o : Object) → IsWithin n (ref place) → IsWithin n w → ObjectWithin n o → Safe n IsWithin (in_place_object p op site line place w o)
-in_place_object_safe p bin.Add site line place n w (object.list own vs) a b h = extend_safe p line place n w a b
-in_place_object_safe p bin.Mul site line place n w (object.list own vs) a b h =
-    safe_if n IsWithin (is_whole w) (repeat_in_place p place own vs) (binary p bin.Mul site line (ref place) w) (repeat_safe p place own n vs a h) (binary_safe p bin.Mul site line n (ref place) w)
-in_place_object_safe p bin.Add site line place n w (object.outside (term.list t)) a b h = safe_gives n (ref place) a
-in_place_object_safe p bin.Mul site line place n w (object.outside (term.list t)) a b h = safe_gives n (ref place) a
+in_place_object_safe p op site line place n w (object.list own vs) a b h = own_list_safe p op site line place n w vs a b h
+in_place_object_safe p op site line place n w (object.outside (term.list t)) a b h = outside_list_safe p op site line place n w a
 in_place_object_safe p op site line place n w o a b h = binary_safe p op site line n (ref place) w
 
 in_place_safe : (p : Program) (op : BinOp) (site line n : ℕ) (v w : Value) → IsWithin n v → IsWithin n w → Safe n IsWithin (in_place p op site line v w)
@@ -353,7 +349,7 @@ handled_safe n P None h = safe_raise n P (codes "RuntimeError")
 handled_safe n P (Some v) h = safe_raises n P v h
 
 raise_again_safe : {A : Type 0} (n : ℕ) (P : ℕ → A → Type 0) → Safe n P raise_again
-raise_again_safe n P = may_then n P (looks (λ m. handled_or_error m.handled)) (safe_looks n P (λ m. handled_or_error m.handled) (λ m good le. handled_safe (size m) P m.handled good.handled))
+raise_again_safe n P = may_then n P (looks (λ m. handled_or_error m.scope.handled)) (safe_looks n P (λ m. handled_or_error m.scope.handled) (λ m good le. handled_safe (size m) P m.scope.handled good.scope.handled))
 
 raise_assertion_safe : {A : Type 0} (p : Program) (n : ℕ) (P : ℕ → A → Type 0) (site line : ℕ) → Safe n P (raise_assertion p site line)
 raise_assertion_safe p n P site line =
@@ -368,7 +364,7 @@ flow_on n k breaks le h = tt
 flow_on n k continues le h = tt
 
 pub gives_flow : (n : ℕ) (flow : Flow) → FlowWithin n flow → Safe n FlowWithin (gives flow)
-gives_flow n flow h = record { keeps = λ m good le. flow_on n (size m) flow le h }
+gives_flow n flow h = safe_give n FlowWithin flow (λ k le. flow_on n k flow le h)
 
 and_on_safe : {A : Type 0} (n : ℕ) (P : ℕ → A → Type 0) (a : Action A) → Safe n P a → Safe n FlowWithin (and_on a)
 and_on_safe n P a h = safe_bind n P FlowWithin a (λ x. gives goes_on) h (λ x k le w. gives_flow k goes_on tt)
@@ -441,7 +437,7 @@ for_safe p target body line n v a =
 -- ---- functions and classes
 
 with_member_safe : (place name n : ℕ) (v : Value) (o : Object) → IsWithin n v → ObjectWithin n o → Safe n Free (with_member place name v o)
-with_member_safe place name n v (object.class c es) a h = safe_replace n place (object.class c (with_entry es name v)) (with_entry_within n es name v h a)
+with_member_safe place name n v (object.class c es) a h = safe_refill n place (object.of_entries (with_entry es name v)) (with_entry_within n es name v h a)
 with_member_safe place name n v (object.list site vs) a h = safe_done n
 with_member_safe place name n v _ a h = safe_done n
 
@@ -482,23 +478,23 @@ define_function_safe p (fun_def id name params body line) n = safe_bind n IsWith
 
 -- ---- statements
 
-unbound_good : (p : Program) (name : ℕ) (m : Memory) → Good m → (size m ≤ size (unbound p name m)) × Good (unbound p name m)
-unbound_good p name m good = changed_good p name (λ es. without_entry es name) m good (λ es h. without_entry_within (size m) es name h) m.frame good.frame
+unbound_within : (p : Program) (n name : ℕ) (c : Scope) → ScopeWithin n c → ScopeWithin n (unbound p name c)
+unbound_within p n name c good = changed_within p n name (λ es. without_entry es name) c good (λ es h. without_entry_within n es name h) c.frame good.frame
 
 named_safe : (p : Program) (o : Option ℕ) (n : ℕ) (v : Value) (a : Action Flow) → IsWithin n v → ((k : ℕ) → n ≤ k → Safe k FlowWithin a) → Safe n FlowWithin (named p o v a)
 named_safe p None n v a w h = h n (omega arith)
 named_safe p (Some name) n v a w h =
     safe_then n Free FlowWithin (store p name v) (afterwards a (unbound p name)) (store_safe p n name v w) (λ k le.
-    safe_afterwards k FlowWithin a (unbound p name) gives_flow (λ m good le'. unbound_good p name m good) (h k le))
+    safe_afterwards k FlowWithin a (unbound p name) gives_flow (λ c j le' good. unbound_within p j name c good) (h k le))
 
-handled_good : (n : ℕ) (o : Option Value) (m : Memory) → Good m → n ≤ size m → OptionWithin n o → (size m ≤ size (with_handled o m)) × Good (with_handled o m)
-handled_good n o m good le h = (omega arith, record { heap = good.heap; globals = good.globals; frame = good.frame; handled = option_on n (size m) o le h })
+handled_within : (n : ℕ) (o : Option Value) (c : Scope) → ScopeWithin n c → OptionWithin n o → ScopeWithin n (with_handled o c)
+handled_within n o c good h = record { globals = good.globals; frame = good.frame; handled = h }
 
 handling_safe : (n : ℕ) (v : Value) (a : Action Flow) → IsWithin n v → ((k : ℕ) → n ≤ k → Safe k FlowWithin a) → Safe n FlowWithin (handling v a)
 handling_safe n v a w h =
-    safe_looks n FlowWithin (λ m. changes (with_handled (Some v)) (afterwards a (with_handled m.handled))) (λ m good le.
-    safe_changes (size m) FlowWithin (with_handled (Some v)) (afterwards a (with_handled m.handled)) (λ u gu le'. handled_good n (Some v) u gu (omega arith) w)
-    (safe_afterwards (size m) FlowWithin a (with_handled m.handled) gives_flow (λ u gu le'. handled_good (size m) m.handled u gu le' good.handled) (h (size m) le)))
+    safe_looks n FlowWithin (λ m. changes (with_handled (Some v)) (afterwards a (with_handled m.scope.handled))) (λ m good le.
+    safe_changes (size m) FlowWithin (with_handled (Some v)) (afterwards a (with_handled m.scope.handled)) (λ c k le' within. handled_within k (Some v) c within (within_on n k v (omega arith) w))
+    (safe_afterwards (size m) FlowWithin a (with_handled m.scope.handled) gives_flow (λ c k le' within. handled_within k m.scope.handled c within (option_on (size m) k m.scope.handled le' good.scope.handled)) (h (size m) le)))
 
 mutual
   pub exec_safe : (p : Program) (s : Stmt) (n : ℕ) → Safe n FlowWithin (exec p s)

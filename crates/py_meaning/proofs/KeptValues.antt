@@ -1,5 +1,5 @@
 -- Fresh values, parts, operators and what iterating gives are within the heap.
-use Rattle.std.proofs.Common.{ℕ, zero, suc, ◌≤◌, Bool, List, [], ◌∷◌, ◌++◌, map, length, Option, Some, None, slice_get, unwrap_or}
+use Rattle.std.proofs.Common.{pos, ℕ, zero, suc, ◌≤◌, Bool, List, [], ◌∷◌, ◌++◌, map, length, Option, Some, None, slice_get, unwrap_or}
 use Rattle.std.specs.Prelude.{is_some, codes}
 use Rattle.std.specs.Str.{bytes_eq}
 use Rattle.type_terms.specs.BuiltinNames.{is_instance_name}
@@ -21,7 +21,7 @@ use Rattle.builtin_stubs.specs.Meanings.{Native, outcome_of}
 use Rattle.builtin_stubs.specs.Natives.{function_number}
 use Rattle.type_terms.specs.Terms as term
 use Rattle.type_terms.specs.Terms.{Term, Terms, list_of}
-use Rattle.py_meaning.specs.Values.{Value, none, float, ref}
+use Rattle.py_meaning.specs.Values.{whole, text, octets, Value, none, float, ref}
 use Rattle.py_meaning.specs.Objects as object
 use Rattle.py_meaning.specs.Objects.{Object, object_at, kind_of}
 use Rattle.py_meaning.specs.Programs.{Program}
@@ -31,20 +31,20 @@ use Rattle.py_meaning.specs.Fresh.{fresh_whole, fresh_text, fresh_octets, fresh_
 use Rattle.py_meaning.specs.Contents.{Content, held, declared, contents, contents_at, Pair, pairs, held_pair, read, read_all, read_pair, read_pairs}
 use Rattle.py_meaning.specs.Operators.{times, repeated, gathered, made, by_row, binary, unary, known_truth, ordered, within, compare}
 use Rattle.py_meaning.specs.Iteration.{Step, no_items, ended, element, on_element, stepped, among, by_parity, of_places, declared_step, step_of_term, values_of, pair_of, paired, pairs_of, at_value, paired_with, numbered, argument_at, step_of_view, step_of_native, step_of_object, step_of, iterate_in, iterate, drain_in, drain, items_of_object, items_of}
-use Rattle.py_meaning.specs.Actions.{Memory, Action, gives, allocate, anything}
+use Rattle.py_meaning.specs.Actions.{is_even, Memory, Action, gives, allocate, anything}
 use Rattle.py_meaning.specs.References.{IsWithin, AreWithin, PairsWithin, OptionWithin, ObjectWithin}
-use Rattle.py_meaning.proofs.Kept.{within_on, are_on, pairs_on, size, Good, Safe, Free, safe_bind, safe_takes, safe_counts, safe_looks, safe_if, safe_allocate, safe_at, object_within, safe_pick, safe_anything, safe_either, safe_fails, safe_one, safe_option, safe_gives, safe_gives_all, safe_gives_pairs, are_append, get_within, or_within, firsts_within, seconds_within, PairWithin, pair_within}
+use Rattle.py_meaning.proofs.Kept.{safe_give, within_on, are_on, pairs_on, size, Good, Safe, Free, safe_bind, safe_takes, safe_counts, safe_looks, safe_if, safe_allocate, safe_at, object_within, safe_pick, safe_anything, safe_either, safe_fails, safe_one, safe_option, safe_gives, safe_gives_all, safe_gives_pairs, are_append, get_within, or_within, firsts_within, seconds_within, PairWithin, pair_within}
 
 -- ---- fresh values
 
 pub whole_safe : (n : ℕ) → Safe n IsWithin fresh_whole
-whole_safe n = record { keeps = λ m good le. λ c. tt }
+whole_safe n = safe_takes n IsWithin _ (λ c. safe_give n IsWithin (whole (pos c)) (λ k le. tt))
 
 pub text_safe : (n : ℕ) → Safe n IsWithin fresh_text
-text_safe n = record { keeps = λ m good le. λ c. tt }
+text_safe n = safe_takes n IsWithin _ (λ c. safe_give n IsWithin (text (is_even c)) (λ k le. tt))
 
 pub octets_safe : (n : ℕ) → Safe n IsWithin fresh_octets
-octets_safe n = record { keeps = λ m good le. λ c. tt }
+octets_safe n = safe_takes n IsWithin _ (λ c. safe_give n IsWithin (octets (is_even c)) (λ k le. tt))
 
 pub instance_safe : (p : Program) (n : ℕ) (name : List ℕ) → Safe n IsWithin (fresh_instance p name)
 instance_safe p n name =
@@ -171,7 +171,7 @@ abbrev pub BothWithin : ℕ → Value × Value → Type 0
 BothWithin n q = IsWithin n q.0 × IsWithin n q.1
 
 safe_both : (n : ℕ) (q : Value × Value) → IsWithin n q.0 → IsWithin n q.1 → Safe n BothWithin (gives q)
-safe_both n q h k = record { keeps = λ m good le. (within_on n (size m) q.0 le h, within_on n (size m) q.1 le k) }
+safe_both n q h k = safe_give n BothWithin q (λ j le. (within_on n j q.0 le h, within_on n j q.1 le k))
 
 content_on : (n k : ℕ) (c : Content) → n ≤ k → ContentWithin n c → ContentWithin k c
 content_on n k (held v) le h = within_on n k v le h
@@ -255,9 +255,9 @@ StepWithin n (element v) = IsWithin n v
 StepWithin n _ = Unit {0}
 
 pub safe_step : (n : ℕ) (one : Step) → StepWithin n one → Safe n StepWithin (gives one)
-safe_step n (element v) h = record { keeps = λ m good le. within_on n (size m) v le h }
-safe_step n no_items h = record { keeps = λ m good le. tt }
-safe_step n ended h = record { keeps = λ m good le. tt }
+safe_step n (element v) h = safe_give n StepWithin (element v) (λ k le. within_on n k v le h)
+safe_step n no_items h = safe_give n StepWithin no_items (λ k le. tt)
+safe_step n ended h = safe_give n StepWithin ended (λ k le. tt)
 
 pub element_safe : {A : Type 0} (n : ℕ) (P : ℕ → A → Type 0) (one : Step) (g : Value → Action A) (a : Action A) → StepWithin n one → ((v : Value) → IsWithin n v → Safe n P (g v)) → Safe n P a → Safe n P (on_element one g a)
 element_safe n P (element v) g a h k j = k v h

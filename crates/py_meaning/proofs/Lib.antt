@@ -5,7 +5,12 @@ mod StatementRuns
 mod CallRuns
 mod NativeRuns
 mod StubRuns
+mod StubValueRuns
+mod OrderRuns
 pub mod Carrying
+pub mod Holding
+pub mod Heads
+pub mod Ending
 pub mod More
 pub mod Endings
 pub mod Kept
@@ -15,4 +20,8 @@ pub mod KeptNatives
 pub mod KeptStatements
 pub mod KeptRuns
 mod Belonging
+mod Unions
+mod KindTables
 pub mod RowKinds
+mod Raising
+pub mod FreshKinds

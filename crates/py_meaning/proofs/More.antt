@@ -1,9 +1,10 @@
 -- More turns change nothing of a run that is over, and so many as are left are enough to stand one in the other.
 use Rattle.std.proofs.Common.{◌≡◌, ℕ, zero, suc, ◌+◌, ◌-◌, ◌≤◌, List, [], ◌∷◌, length, refl, ap, ◌∙◌, arith}
+use Rattle.py_meaning.specs.Values.{ref}
 use Rattle.py_meaning.specs.Programs.{Program, program}
 use Rattle.py_meaning.specs.Calls.{perform}
-use Rattle.py_meaning.specs.Actions.{Flow, Request, Outcome, came, threw, Action, gives, raises, takes, counts, turn, looks, becomes, tells, then_do}
-use Rattle.py_meaning.specs.Runs.{State, out_of_turns, out_of_choices, Answer, gave, raised, stopped, with_memory, with_event, with_choices, with_turns, after_turn, take_choice, carry_out, begin_turn, turns_within, start, module_action, make_calls, run_of, answer, run}
+use Rattle.py_meaning.specs.Actions.{Scope, with_scope, with_new, with_parts, Flow, Request, Outcome, came, threw, Action, gives, raises, takes, counts, turn, looks, becomes, makes, refills, tells, then_do}
+use Rattle.py_meaning.specs.Runs.{State, out_of_turns, out_of_choices, Answer, gave, raised, stopped, with_memory, with_event, with_choices, with_turns, after_turn, take_choice, carry_out, begin_turn, come_back, turns_within, start, module_action, make_calls, run_of, answer, run}
 use Rattle.py_meaning.specs.Laws.{reached, IsOver, MoreTurnsChangeNothing, NestingIsEnough}
 use Rattle.py_meaning.proofs.Carrying
 use Rattle.py_meaning.proofs.Carrying.{fewer_turns}
@@ -43,7 +44,9 @@ carry_more d t u h (takes k) s over = take_choice_more d s.choices (λ c. carry_
 carry_more d t u h (counts k) s over = carry_more d t u h (k (length s.choices)) s over
 carry_more d t u h (turn q k) s over = after_turn_more d (t q s) (u q (more d s)) (λ o. carry_out t (k o)) (λ o. carry_out u (k o)) (h q s) (λ o s'. carry_more d t u h (k o) s') over
 carry_more d t u h (looks k) s over = carry_more d t u h (k s.memory) s over
-carry_more d t u h (becomes m a) s over = carry_more d t u h a (with_memory m s) over
+carry_more d t u h (becomes c a) s over = carry_more d t u h a (with_memory (with_scope c s.memory) s) over
+carry_more d t u h (makes o k) s over = carry_more d t u h (k (ref (length s.memory.heap))) (with_memory (with_new o s.memory) s) over
+carry_more d t u h (refills place new a) s over = carry_more d t u h a (with_memory (with_parts place new s.memory) s) over
 carry_more d t u h (tells e a) s over = carry_more d t u h a (with_event e s) over
 
 begin_more : (d n : ℕ) (f g : State → Answer Flow) (s : State) → s.turns ≡ n → ((t : State) → Follows d (f t) (g (more d t))) → Follows d (begin_turn n f s) (begin_turn (d + s.turns) g (more d s))
@@ -52,13 +55,27 @@ begin_more d (suc n) f g s e h over =
     let next : d + s.turns ≡ suc (d + n) = omega arith in
     ap (λ x. begin_turn x g (more d s)) next ∙ h (with_turns n s) over
 
+over_before : (q : Request) (before : Scope) (r : Answer Flow) → Over (come_back q before r) → Over r
+over_before q before (gave flow s) over = tt
+over_before q before (raised v s) over = tt
+over_before q before (stopped why s) over = over
+
+come_back_more : (d : ℕ) (q : Request) (before : Scope) (r : Answer Flow) → come_back q before (shifted d r) ≡ shifted d (come_back q before r)
+come_back_more d q before (gave flow s) = refl
+come_back_more d q before (raised v s) = refl
+come_back_more d q before (stopped why s) = refl
+
 turns_more : (p : Program) (d n k : ℕ) → n ≤ k → (q : Request) (s : State) → Follows d (turns_within p n q s) (turns_within p k q (more d s))
 unfolding turns_within
 turns_more p d zero k le q s over = absurd over
 turns_more p d (suc n) zero le q s over = absurd (omega arith)
 turns_more p d (suc n) (suc k) le q s over =
-    begin_more d s.turns (carry_out (turns_within p n) (perform p q)) (carry_out (turns_within p k) (perform p q)) s refl
-    (λ t. carry_more d (turns_within p n) (turns_within p k) (turns_more p d n k (omega arith)) (perform p q) t) over
+    let c : Scope = s.memory.scope in
+    let r : Answer Flow = begin_turn s.turns (carry_out (turns_within p n) (perform p q)) s in
+    ap (λ x. come_back q c x)
+    (begin_more d s.turns (carry_out (turns_within p n) (perform p q)) (carry_out (turns_within p k) (perform p q)) s refl
+    (λ t. carry_more d (turns_within p n) (turns_within p k) (turns_more p d n k (omega arith)) (perform p q) t) (over_before q c r over))
+    ∙ come_back_more d q c r
 
 over_of : {A : Type 0} (r : Answer A) → IsOver (run_of r).ending → Over r
 over_of (gave a s) h = tt
@@ -104,7 +121,9 @@ module _ (n : ℕ) (t u : Request → State → Answer Flow) (same : (q : Reques
       let still : (reached (t q s)).turns ≤ n = omega arith in
       ap (λ r. after_turn r (λ o. carry_out u (k o))) (same q s le) ∙ after_turn_same n (t q s) (λ o. carry_out t (k o)) (λ o. carry_out u (k o)) still (λ o s' le'. carry_same (k o) s' le')
   carry_same (looks k) s le = carry_same (k s.memory) s le
-  carry_same (becomes m a) s le = carry_same a (with_memory m s) le
+  carry_same (becomes c a) s le = carry_same a (with_memory (with_scope c s.memory) s) le
+  carry_same (makes o k) s le = carry_same (k (ref (length s.memory.heap))) (with_memory (with_new o s.memory) s) le
+  carry_same (refills place new a) s le = carry_same a (with_memory (with_parts place new s.memory) s) le
   carry_same (tells e a) s le = carry_same a (with_event e s) le
 
 fewer_in_turns : (p : Program) (n : ℕ) (q : Request) (s : State) → (reached (turns_within p n q s)).turns ≤ s.turns
@@ -119,11 +138,11 @@ unfolding turns_within
 turns_same p zero zero le q s few = refl
 turns_same p zero (suc k) le q s few =
     let none_left : s.turns ≡ 0 = omega arith in
-    ap (λ x. begin_turn x (carry_out (turns_within p k) (perform p q)) s) none_left
+    ap (λ x. come_back q s.memory.scope (begin_turn x (carry_out (turns_within p k) (perform p q)) s)) none_left
 turns_same p (suc n) zero le q s few = absurd (omega arith)
 turns_same p (suc n) (suc k) le q s few =
-    begin_same n s.turns (carry_out (turns_within p n) (perform p q)) (carry_out (turns_within p k) (perform p q)) s few
-    (λ y small. carry_same n (turns_within p n) (turns_within p k) (turns_same p n k (omega arith)) (fewer_in_turns p n) (perform p q) (with_turns y s) small)
+    ap (λ x. come_back q s.memory.scope x) (begin_same n s.turns (carry_out (turns_within p n) (perform p q)) (carry_out (turns_within p k) (perform p q)) s few
+    (λ y small. carry_same n (turns_within p n) (turns_within p k) (turns_same p n k (omega arith)) (fewer_in_turns p n) (perform p q) (with_turns y s) small))
 
 pub nesting_is_enough : NestingIsEnough
 unfolding answer

@@ -7,9 +7,9 @@ use Rattle.py_tree.specs.Tree.{Module, Param, node, Exprs, no_exprs, expr, no_bo
 use Rattle.py_meaning.specs.Values.{none, truth, whole, float, text, octets, ref}
 use Rattle.py_meaning.specs.Objects as object
 use Rattle.py_meaning.specs.Events as event
-use Rattle.py_meaning.specs.Runs.{turns_within, answer, ended, raised_out, run}
+use Rattle.py_meaning.specs.Runs.{turns_within, answer, ended, raised_out}
 use Rattle.builtin_stubs.specs.declared.basic.Basic.TheVariants as kind
-use Rattle.py_meaning.proofs.Samples.{native, method, error, anything}
+use Rattle.py_meaning.proofs.Samples.{answered, native, method, error, anything}
 
 -- any whole number
 --     x = len([1])
@@ -19,12 +19,14 @@ takes_a_length_module = record {
   names = codes "x" ∷ codes "len" ∷ [];
 }
 
-takes_a_length : run takes_a_length_module [] 1 (0 ∷ 0 ∷ 5 ∷ []) ([]) ≡ record {
+takes_a_length : answered takes_a_length_module [] 1 (0 ∷ 0 ∷ 5 ∷ []) ([]) ≡ record {
   events = event.held 0 (whole (pos 5)) ∷ [];
   heap = native (codes "len") ∷ object.list 3 ((whole (pos 1)) ∷ []) ∷ [];
   ending = ended;
+  choices = [];
+  turns = 0;
 }
-unfolding run answer turns_within
+unfolding answer turns_within
 takes_a_length = refl
 
 --     x = print(1, end="")
@@ -34,12 +36,14 @@ prints_module = record {
   names = codes "x" ∷ codes "print" ∷ codes "end" ∷ [];
 }
 
-prints : run prints_module [] 1 (0 ∷ 0 ∷ []) ([]) ≡ record {
+prints : answered prints_module [] 1 (0 ∷ 0 ∷ []) ([]) ≡ record {
   events = event.held 0 none ∷ [];
   heap = native (codes "print") ∷ [];
   ending = ended;
+  choices = [];
+  turns = 0;
 }
-unfolding run answer turns_within
+unfolding answer turns_within
 prints = refl
 
 -- a choice, whatever the argument is
@@ -50,12 +54,14 @@ makes_a_truth_value_module = record {
   names = codes "x" ∷ codes "bool" ∷ [];
 }
 
-makes_a_truth_value : run makes_a_truth_value_module [] 1 (0 ∷ 0 ∷ 1 ∷ []) ([]) ≡ record {
+makes_a_truth_value : answered makes_a_truth_value_module [] 1 (0 ∷ 0 ∷ 1 ∷ []) ([]) ≡ record {
   events = event.held 0 (truth false) ∷ [];
   heap = native (codes "bool") ∷ [];
   ending = ended;
+  choices = [];
+  turns = 0;
 }
-unfolding run answer turns_within
+unfolding answer turns_within
 makes_a_truth_value = refl
 
 --     x = int("7")
@@ -67,12 +73,14 @@ makes_numbers_and_texts_module = record {
   names = codes "x" ∷ codes "int" ∷ codes "y" ∷ codes "float" ∷ codes "z" ∷ codes "str" ∷ [];
 }
 
-makes_numbers_and_texts : run makes_numbers_and_texts_module [] 3 (0 ∷ 0 ∷ 7 ∷ 0 ∷ 0 ∷ 0 ∷ 0 ∷ 2 ∷ []) ([]) ≡ record {
+makes_numbers_and_texts : answered makes_numbers_and_texts_module [] 3 (0 ∷ 0 ∷ 7 ∷ 0 ∷ 0 ∷ 0 ∷ 0 ∷ 2 ∷ []) ([]) ≡ record {
   events = event.held 0 (whole (pos 7)) ∷ event.held 2 float ∷ event.held 4 (text true) ∷ [];
   heap = native (codes "int") ∷ native (codes "float") ∷ native (codes "str") ∷ [];
   ending = ended;
+  choices = [];
+  turns = 0;
 }
-unfolding run answer turns_within
+unfolding answer turns_within
 makes_numbers_and_texts = refl
 
 --     len()
@@ -82,12 +90,14 @@ takes_no_length_of_nothing_module = record {
   names = codes "len" ∷ [];
 }
 
-takes_no_length_of_nothing : run takes_no_length_of_nothing_module [] 1 (0 ∷ 0 ∷ []) ([]) ≡ record {
+takes_no_length_of_nothing : answered takes_no_length_of_nothing_module [] 1 (0 ∷ 0 ∷ []) ([]) ≡ record {
   events = event.fault 1 event.missing_parameter event.on_another None ∷ [];
   heap = native (codes "len") ∷ error (codes "TypeError") ∷ [];
   ending = raised_out (ref 1);
+  choices = [];
+  turns = 0;
 }
-unfolding run answer turns_within
+unfolding answer turns_within
 takes_no_length_of_nothing = refl
 
 --     len(1, 2)
@@ -97,12 +107,14 @@ takes_no_length_of_two_module = record {
   names = codes "len" ∷ [];
 }
 
-takes_no_length_of_two : run takes_no_length_of_two_module [] 1 (0 ∷ 0 ∷ []) ([]) ≡ record {
+takes_no_length_of_two : answered takes_no_length_of_two_module [] 1 (0 ∷ 0 ∷ []) ([]) ≡ record {
   events = event.fault 1 event.wrong_arg_count event.on_another None ∷ [];
   heap = native (codes "len") ∷ error (codes "TypeError") ∷ [];
   ending = raised_out (ref 1);
+  choices = [];
+  turns = 0;
 }
-unfolding run answer turns_within
+unfolding answer turns_within
 takes_no_length_of_two = refl
 
 --     len(x=1)
@@ -112,12 +124,14 @@ takes_no_length_by_keyword_module = record {
   names = codes "len" ∷ codes "x" ∷ [];
 }
 
-takes_no_length_by_keyword : run takes_no_length_by_keyword_module [] 1 (0 ∷ 0 ∷ []) ([]) ≡ record {
+takes_no_length_by_keyword : answered takes_no_length_by_keyword_module [] 1 (0 ∷ 0 ∷ []) ([]) ≡ record {
   events = event.fault 1 event.wrong_keyword_args event.on_another None ∷ [];
   heap = native (codes "len") ∷ error (codes "TypeError") ∷ [];
   ending = raised_out (ref 1);
+  choices = [];
+  turns = 0;
 }
-unfolding run answer turns_within
+unfolding answer turns_within
 takes_no_length_by_keyword = refl
 
 -- its items by choice, until an odd one
@@ -128,12 +142,14 @@ sorts_a_text_module = record {
   names = codes "x" ∷ codes "sorted" ∷ codes "reverse" ∷ [];
 }
 
-sorts_a_text : run sorts_a_text_module [] 1 (0 ∷ 0 ∷ 0 ∷ 1 ∷ 1 ∷ []) ([]) ≡ record {
+sorts_a_text : answered sorts_a_text_module [] 1 (0 ∷ 0 ∷ 0 ∷ 1 ∷ 1 ∷ []) ([]) ≡ record {
   events = event.held 0 (ref 1) ∷ [];
   heap = native (codes "sorted") ∷ object.list 4 ((text false) ∷ []) ∷ [];
   ending = ended;
+  choices = [];
+  turns = 0;
 }
-unfolding run answer turns_within
+unfolding answer turns_within
 sorts_a_text = refl
 
 --     x = list({"a": 1, 2: 3})
@@ -144,12 +160,14 @@ makes_a_list_of_keys_module = record {
   names = codes "x" ∷ codes "list" ∷ codes "y" ∷ [];
 }
 
-makes_a_list_of_keys : run makes_a_list_of_keys_module [] 2 (0 ∷ 0 ∷ 0 ∷ 0 ∷ []) ([]) ≡ record {
+makes_a_list_of_keys : answered makes_a_list_of_keys_module [] 2 (0 ∷ 0 ∷ 0 ∷ 0 ∷ []) ([]) ≡ record {
   events = event.held 0 (ref 2) ∷ event.held 2 (ref 4) ∷ [];
   heap = native (codes "list") ∷ object.dict 6 (((text false), (whole (pos 1))) ∷ ((whole (pos 2)), (whole (pos 3))) ∷ []) ∷ object.list 7 ((text false) ∷ (whole (pos 2)) ∷ []) ∷ native (codes "list") ∷ object.list 10 ([]) ∷ [];
   ending = ended;
+  choices = [];
+  turns = 0;
 }
-unfolding run answer turns_within
+unfolding answer turns_within
 makes_a_list_of_keys = refl
 
 --     x = tuple([1, 2])
@@ -159,12 +177,14 @@ makes_a_tuple_module = record {
   names = codes "x" ∷ codes "tuple" ∷ [];
 }
 
-makes_a_tuple : run makes_a_tuple_module [] 1 (0 ∷ 0 ∷ []) ([]) ≡ record {
+makes_a_tuple : answered makes_a_tuple_module [] 1 (0 ∷ 0 ∷ []) ([]) ≡ record {
   events = event.held 0 (ref 2) ∷ [];
   heap = native (codes "tuple") ∷ object.list 4 ((whole (pos 1)) ∷ (whole (pos 2)) ∷ []) ∷ object.tuple 5 object.parts ((whole (pos 1)) ∷ (whole (pos 2)) ∷ []) ∷ [];
   ending = ended;
+  choices = [];
+  turns = 0;
 }
-unfolding run answer turns_within
+unfolding answer turns_within
 makes_a_tuple = refl
 
 -- what can't be iterated gives a native no item
@@ -175,12 +195,14 @@ makes_a_list_of_a_number_module = record {
   names = codes "x" ∷ codes "list" ∷ [];
 }
 
-makes_a_list_of_a_number : run makes_a_list_of_a_number_module [] 1 (0 ∷ 0 ∷ []) ([]) ≡ record {
+makes_a_list_of_a_number : answered makes_a_list_of_a_number_module [] 1 (0 ∷ 0 ∷ []) ([]) ≡ record {
   events = event.held 0 (ref 1) ∷ [];
   heap = native (codes "list") ∷ object.list 3 ([]) ∷ [];
   ending = ended;
+  choices = [];
+  turns = 0;
 }
-unfolding run answer turns_within
+unfolding answer turns_within
 makes_a_list_of_a_number = refl
 
 --     x = dict(a=1)
@@ -190,12 +212,14 @@ makes_a_dict_of_keywords_module = record {
   names = codes "x" ∷ codes "dict" ∷ codes "a" ∷ [];
 }
 
-makes_a_dict_of_keywords : run makes_a_dict_of_keywords_module [] 1 (0 ∷ 0 ∷ []) ([]) ≡ record {
+makes_a_dict_of_keywords : answered makes_a_dict_of_keywords_module [] 1 (0 ∷ 0 ∷ []) ([]) ≡ record {
   events = event.held 0 (ref 1) ∷ [];
   heap = native (codes "dict") ∷ object.dict 3 (((text false), (whole (pos 1))) ∷ []) ∷ [];
   ending = ended;
+  choices = [];
+  turns = 0;
 }
-unfolding run answer turns_within
+unfolding answer turns_within
 makes_a_dict_of_keywords = refl
 
 --     x = dict([(1, 2)], b=3)
@@ -205,12 +229,14 @@ makes_a_dict_of_pairs_module = record {
   names = codes "x" ∷ codes "dict" ∷ codes "b" ∷ [];
 }
 
-makes_a_dict_of_pairs : run makes_a_dict_of_pairs_module [] 1 (0 ∷ 0 ∷ []) ([]) ≡ record {
+makes_a_dict_of_pairs : answered makes_a_dict_of_pairs_module [] 1 (0 ∷ 0 ∷ []) ([]) ≡ record {
   events = event.held 0 (ref 3) ∷ [];
   heap = native (codes "dict") ∷ object.tuple 4 object.places ((whole (pos 1)) ∷ (whole (pos 2)) ∷ []) ∷ object.list 5 ((ref 1) ∷ []) ∷ object.dict 7 (((whole (pos 1)), (whole (pos 2))) ∷ ((text false), (whole (pos 3))) ∷ []) ∷ [];
   ending = ended;
+  choices = [];
+  turns = 0;
 }
-unfolding run answer turns_within
+unfolding answer turns_within
 makes_a_dict_of_pairs = refl
 
 --     x = dict({1: 2})
@@ -220,12 +246,14 @@ makes_a_dict_of_a_dict_module = record {
   names = codes "x" ∷ codes "dict" ∷ [];
 }
 
-makes_a_dict_of_a_dict : run makes_a_dict_of_a_dict_module [] 1 (0 ∷ 0 ∷ []) ([]) ≡ record {
+makes_a_dict_of_a_dict : answered makes_a_dict_of_a_dict_module [] 1 (0 ∷ 0 ∷ []) ([]) ≡ record {
   events = event.held 0 (ref 2) ∷ [];
   heap = native (codes "dict") ∷ object.dict 4 (((whole (pos 1)), (whole (pos 2))) ∷ []) ∷ object.dict 5 (((whole (pos 1)), (whole (pos 2))) ∷ []) ∷ [];
   ending = ended;
+  choices = [];
+  turns = 0;
 }
-unfolding run answer turns_within
+unfolding answer turns_within
 makes_a_dict_of_a_dict = refl
 
 --     x = dict([(1, 2, 3)])
@@ -235,12 +263,14 @@ makes_no_dict_of_threes_module = record {
   names = codes "x" ∷ codes "dict" ∷ [];
 }
 
-makes_no_dict_of_threes : run makes_no_dict_of_threes_module [] 1 (0 ∷ 0 ∷ []) ([]) ≡ record {
+makes_no_dict_of_threes : answered makes_no_dict_of_threes_module [] 1 (0 ∷ 0 ∷ []) ([]) ≡ record {
   events = [];
   heap = native (codes "dict") ∷ object.tuple 5 object.places ((whole (pos 1)) ∷ (whole (pos 2)) ∷ (whole (pos 3)) ∷ []) ∷ object.list 6 ((ref 1) ∷ []) ∷ object.dict 7 ([]) ∷ error (codes "ValueError") ∷ [];
   ending = raised_out (ref 4);
+  choices = [];
+  turns = 0;
 }
-unfolding run answer turns_within
+unfolding answer turns_within
 makes_no_dict_of_threes = refl
 
 -- a TypeError that is no event
@@ -251,12 +281,14 @@ makes_no_dict_of_numbers_module = record {
   names = codes "x" ∷ codes "dict" ∷ [];
 }
 
-makes_no_dict_of_numbers : run makes_no_dict_of_numbers_module [] 1 (0 ∷ 0 ∷ []) ([]) ≡ record {
+makes_no_dict_of_numbers : answered makes_no_dict_of_numbers_module [] 1 (0 ∷ 0 ∷ []) ([]) ≡ record {
   events = [];
   heap = native (codes "dict") ∷ object.list 3 ((whole (pos 3)) ∷ []) ∷ object.dict 4 ([]) ∷ error (codes "TypeError") ∷ [];
   ending = raised_out (ref 3);
+  choices = [];
+  turns = 0;
 }
-unfolding run answer turns_within
+unfolding answer turns_within
 makes_no_dict_of_numbers = refl
 
 --     x = dict([nope])
@@ -266,12 +298,14 @@ makes_a_dict_of_what_is_outside_module = record {
   names = codes "x" ∷ codes "dict" ∷ codes "nope" ∷ [];
 }
 
-makes_a_dict_of_what_is_outside : run makes_a_dict_of_what_is_outside_module [] 1 (0 ∷ 0 ∷ 0 ∷ []) ([]) ≡ record {
+makes_a_dict_of_what_is_outside : answered makes_a_dict_of_what_is_outside_module [] 1 (0 ∷ 0 ∷ 0 ∷ []) ([]) ≡ record {
   events = event.held 0 (ref 3) ∷ [];
   heap = native (codes "dict") ∷ anything ∷ object.list 3 ((ref 1) ∷ []) ∷ object.dict 4 (((ref 4), (ref 5)) ∷ []) ∷ anything ∷ anything ∷ [];
   ending = ended;
+  choices = [];
+  turns = 0;
 }
-unfolding run answer turns_within
+unfolding answer turns_within
 makes_a_dict_of_what_is_outside = refl
 
 --     x = object()
@@ -282,12 +316,14 @@ makes_objects_module = record {
   names = codes "x" ∷ codes "object" ∷ codes "y" ∷ codes "range" ∷ [];
 }
 
-makes_objects : run makes_objects_module [] 2 (0 ∷ 0 ∷ 0 ∷ 0 ∷ []) ([]) ≡ record {
+makes_objects : answered makes_objects_module [] 2 (0 ∷ 0 ∷ 0 ∷ 0 ∷ []) ([]) ≡ record {
   events = event.held 0 (ref 1) ∷ event.held 2 (ref 3) ∷ [];
   heap = native (codes "object") ∷ object.outside (term.class (codes "object")) ∷ native (codes "range") ∷ object.outside (term.class (codes "range")) ∷ [];
   ending = ended;
+  choices = [];
+  turns = 0;
 }
-unfolding run answer turns_within
+unfolding answer turns_within
 makes_objects = refl
 
 --     x = isinstance(True, int)
@@ -298,12 +334,14 @@ tests_for_a_class_module = record {
   names = codes "x" ∷ codes "isinstance" ∷ codes "int" ∷ codes "y" ∷ codes "bool" ∷ [];
 }
 
-tests_for_a_class : run tests_for_a_class_module [] 2 (0 ∷ 0 ∷ 0 ∷ 0 ∷ 0 ∷ 0 ∷ []) ([]) ≡ record {
+tests_for_a_class : answered tests_for_a_class_module [] 2 (0 ∷ 0 ∷ 0 ∷ 0 ∷ 0 ∷ 0 ∷ []) ([]) ≡ record {
   events = event.held 0 (truth true) ∷ event.held 3 (truth false) ∷ [];
   heap = native (codes "isinstance") ∷ native (codes "int") ∷ native (codes "isinstance") ∷ native (codes "bool") ∷ [];
   ending = ended;
+  choices = [];
+  turns = 0;
 }
-unfolding run answer turns_within
+unfolding answer turns_within
 tests_for_a_class = refl
 
 --     class B:
@@ -318,12 +356,14 @@ tests_an_instance_module = record {
   names = codes "B" ∷ codes "C" ∷ codes "x" ∷ codes "isinstance" ∷ codes "y" ∷ [];
 }
 
-tests_an_instance : run tests_an_instance_module [] 4 (0 ∷ 0 ∷ 0 ∷ 0 ∷ 0 ∷ 0 ∷ 0 ∷ 0 ∷ 0 ∷ 0 ∷ []) ([]) ≡ record {
+tests_an_instance : answered tests_an_instance_module [] 4 (0 ∷ 0 ∷ 0 ∷ 0 ∷ 0 ∷ 0 ∷ 0 ∷ 0 ∷ 0 ∷ 0 ∷ []) ([]) ≡ record {
   events = event.held 2 (truth true) ∷ event.held 4 (truth false) ∷ [];
   heap = object.class 0 ([]) ∷ object.class 1 ([]) ∷ native (codes "isinstance") ∷ object.instance 1 ([]) ∷ native (codes "isinstance") ∷ object.instance 0 ([]) ∷ [];
   ending = ended;
+  choices = [];
+  turns = 0;
 }
-unfolding run answer turns_within
+unfolding answer turns_within
 tests_an_instance = refl
 
 --     x = isinstance(nope, int)
@@ -333,12 +373,14 @@ tests_what_is_outside_module = record {
   names = codes "x" ∷ codes "isinstance" ∷ codes "nope" ∷ codes "int" ∷ [];
 }
 
-tests_what_is_outside : run tests_what_is_outside_module [] 1 (0 ∷ 0 ∷ 0 ∷ 0 ∷ 1 ∷ []) ([]) ≡ record {
+tests_what_is_outside : answered tests_what_is_outside_module [] 1 (0 ∷ 0 ∷ 0 ∷ 0 ∷ 1 ∷ []) ([]) ≡ record {
   events = event.held 0 (truth false) ∷ [];
   heap = native (codes "isinstance") ∷ anything ∷ native (codes "int") ∷ [];
   ending = ended;
+  choices = [];
+  turns = 0;
 }
-unfolding run answer turns_within
+unfolding answer turns_within
 tests_what_is_outside = refl
 
 --     x = min([1, 2])
@@ -349,12 +391,14 @@ finds_a_least_module = record {
   names = codes "x" ∷ codes "min" ∷ codes "y" ∷ codes "max" ∷ [];
 }
 
-finds_a_least : run finds_a_least_module [] 2 (0 ∷ 0 ∷ 1 ∷ 0 ∷ 0 ∷ 0 ∷ []) ([]) ≡ record {
+finds_a_least : answered finds_a_least_module [] 2 (0 ∷ 0 ∷ 1 ∷ 0 ∷ 0 ∷ 0 ∷ []) ([]) ≡ record {
   events = event.held 0 (whole (pos 2)) ∷ event.held 2 (whole (pos 3)) ∷ [];
   heap = native (codes "min") ∷ object.list 4 ((whole (pos 1)) ∷ (whole (pos 2)) ∷ []) ∷ native (codes "max") ∷ [];
   ending = ended;
+  choices = [];
+  turns = 0;
 }
-unfolding run answer turns_within
+unfolding answer turns_within
 finds_a_least = refl
 
 -- a ValueError that is no event
@@ -365,12 +409,14 @@ finds_no_least_module = record {
   names = codes "x" ∷ codes "min" ∷ [];
 }
 
-finds_no_least : run finds_no_least_module [] 1 (0 ∷ 0 ∷ []) ([]) ≡ record {
+finds_no_least : answered finds_no_least_module [] 1 (0 ∷ 0 ∷ []) ([]) ≡ record {
   events = [];
   heap = native (codes "min") ∷ object.list 2 ([]) ∷ error (codes "ValueError") ∷ [];
   ending = raised_out (ref 2);
+  choices = [];
+  turns = 0;
 }
-unfolding run answer turns_within
+unfolding answer turns_within
 finds_no_least = refl
 
 -- the element, and then a number; the pair is made anew where the view was
@@ -382,12 +428,14 @@ enumerates_module = record {
   names = codes "n" ∷ codes "x" ∷ codes "enumerate" ∷ [];
 }
 
-enumerates : run enumerates_module [] 2 (0 ∷ 0 ∷ 0 ∷ 0 ∷ 9 ∷ 0 ∷ 0 ∷ 0 ∷ 1 ∷ []) ([]) ≡ record {
+enumerates : answered enumerates_module [] 2 (0 ∷ 0 ∷ 0 ∷ 0 ∷ 9 ∷ 0 ∷ 0 ∷ 0 ∷ 1 ∷ []) ([]) ≡ record {
   events = event.held 0 (whole (pos 9)) ∷ event.held 1 (text false) ∷ [];
   heap = native (codes "enumerate") ∷ object.list 5 ((text false) ∷ []) ∷ object.view 6 10 None ((ref 1) ∷ []) ∷ object.tuple 6 object.places ((whole (pos 9)) ∷ (text false) ∷ []) ∷ [];
   ending = ended;
+  choices = [];
+  turns = 0;
 }
-unfolding run answer turns_within
+unfolding answer turns_within
 enumerates = refl
 
 --     x = list(zip([1], "a"))
@@ -397,12 +445,14 @@ zips_module = record {
   names = codes "x" ∷ codes "list" ∷ codes "zip" ∷ [];
 }
 
-zips : run zips_module [] 2 (0 ∷ 0 ∷ 0 ∷ 0 ∷ 0 ∷ 0 ∷ 3 ∷ 1 ∷ []) ([]) ≡ record {
+zips : answered zips_module [] 2 (0 ∷ 0 ∷ 0 ∷ 0 ∷ 0 ∷ 0 ∷ 3 ∷ 1 ∷ []) ([]) ≡ record {
   events = event.held 0 (ref 5) ∷ [];
   heap = native (codes "list") ∷ native (codes "zip") ∷ object.list 4 ((whole (pos 1)) ∷ []) ∷ object.view 6 11 None ((ref 2) ∷ (text false) ∷ []) ∷ object.tuple 6 object.places ((whole (pos 1)) ∷ (text false) ∷ []) ∷ object.list 7 ((ref 4) ∷ []) ∷ [];
   ending = ended;
+  choices = [];
+  turns = 0;
 }
-unfolding run answer turns_within
+unfolding answer turns_within
 zips = refl
 
 --     for v in {"a": 1}.values():
@@ -413,12 +463,14 @@ views_values_module = record {
   names = codes "v" ∷ codes "values" ∷ [];
 }
 
-views_values : run views_values_module [] 2 (0 ∷ 0 ∷ 0 ∷ 0 ∷ 0 ∷ 1 ∷ []) ([]) ≡ record {
+views_values : answered views_values_module [] 2 (0 ∷ 0 ∷ 0 ∷ 0 ∷ 0 ∷ 1 ∷ []) ([]) ≡ record {
   events = event.held 0 (whole (pos 1)) ∷ [];
   heap = object.dict 3 (((text false), (whole (pos 1))) ∷ []) ∷ method kind.Dict (codes "values") (ref 0) ∷ object.view 5 75 (Some (ref 0)) ([]) ∷ [];
   ending = ended;
+  choices = [];
+  turns = 0;
 }
-unfolding run answer turns_within
+unfolding answer turns_within
 views_values = refl
 
 -- a view goes over what the dict holds by then
@@ -432,12 +484,14 @@ views_pairs_module = record {
   names = codes "d" ∷ codes "v" ∷ codes "items" ∷ codes "x" ∷ codes "list" ∷ [];
 }
 
-views_pairs : run views_pairs_module [] 2 (0 ∷ 0 ∷ 0 ∷ 0 ∷ 0 ∷ 0 ∷ 0 ∷ 0 ∷ 0 ∷ 1 ∷ []) ([]) ≡ record {
+views_pairs : answered views_pairs_module [] 2 (0 ∷ 0 ∷ 0 ∷ 0 ∷ 0 ∷ 0 ∷ 0 ∷ 0 ∷ 0 ∷ 1 ∷ []) ([]) ≡ record {
   events = event.held 0 (ref 0) ∷ event.held 1 (ref 2) ∷ event.held 3 (ref 5) ∷ [];
   heap = object.dict 1 (((text false), (whole (pos 1))) ∷ []) ∷ method kind.Dict (codes "items") (ref 0) ∷ object.view 5 76 (Some (ref 0)) ([]) ∷ native (codes "list") ∷ object.tuple 5 object.places ((text false) ∷ (whole (pos 1)) ∷ []) ∷ object.list 13 ((ref 4) ∷ []) ∷ [];
   ending = ended;
+  choices = [];
+  turns = 0;
 }
-unfolding run answer turns_within
+unfolding answer turns_within
 views_pairs = refl
 
 -- at any place by choice
@@ -449,12 +503,14 @@ inserts_module = record {
   names = codes "xs" ∷ codes "insert" ∷ [];
 }
 
-inserts : run inserts_module [] 1 (0 ∷ 0 ∷ 0 ∷ 1 ∷ []) ([]) ≡ record {
+inserts : answered inserts_module [] 1 (0 ∷ 0 ∷ 0 ∷ 1 ∷ []) ([]) ≡ record {
   events = event.held 0 (ref 0) ∷ [];
   heap = object.list 3 ((whole (pos 1)) ∷ (whole (pos 3)) ∷ (whole (pos 2)) ∷ []) ∷ method kind.List (codes "insert") (ref 0) ∷ [];
   ending = ended;
+  choices = [];
+  turns = 0;
 }
-unfolding run answer turns_within
+unfolding answer turns_within
 inserts = refl
 
 --     xs = [1]
@@ -465,12 +521,14 @@ extends_by_itself_module = record {
   names = codes "xs" ∷ codes "extend" ∷ [];
 }
 
-extends_by_itself : run extends_by_itself_module [] 1 (0 ∷ 0 ∷ 0 ∷ 0 ∷ []) ([]) ≡ record {
+extends_by_itself : answered extends_by_itself_module [] 1 (0 ∷ 0 ∷ 0 ∷ 0 ∷ []) ([]) ≡ record {
   events = event.held 0 (ref 0) ∷ [];
   heap = object.list 2 ((whole (pos 1)) ∷ (whole (pos 1)) ∷ []) ∷ method kind.List (codes "extend") (ref 0) ∷ [];
   ending = ended;
+  choices = [];
+  turns = 0;
 }
-unfolding run answer turns_within
+unfolding answer turns_within
 extends_by_itself = refl
 
 --     xs = [1, 2]
@@ -481,12 +539,14 @@ pops_module = record {
   names = codes "xs" ∷ codes "y" ∷ codes "pop" ∷ [];
 }
 
-pops : run pops_module [] 1 (0 ∷ 0 ∷ 0 ∷ 0 ∷ []) ([]) ≡ record {
+pops : answered pops_module [] 1 (0 ∷ 0 ∷ 0 ∷ 0 ∷ []) ([]) ≡ record {
   events = event.held 0 (ref 0) ∷ event.held 1 (whole (pos 1)) ∷ [];
   heap = object.list 3 ((whole (pos 2)) ∷ []) ∷ method kind.List (codes "pop") (ref 0) ∷ [];
   ending = ended;
+  choices = [];
+  turns = 0;
 }
-unfolding run answer turns_within
+unfolding answer turns_within
 pops = refl
 
 --     [].pop()
@@ -496,12 +556,14 @@ pops_from_nothing_module = record {
   names = codes "pop" ∷ [];
 }
 
-pops_from_nothing : run pops_from_nothing_module [] 1 (0 ∷ 0 ∷ []) ([]) ≡ record {
+pops_from_nothing : answered pops_from_nothing_module [] 1 (0 ∷ 0 ∷ []) ([]) ≡ record {
   events = [];
   heap = object.list 0 ([]) ∷ method kind.List (codes "pop") (ref 0) ∷ error (codes "IndexError") ∷ [];
   ending = raised_out (ref 2);
+  choices = [];
+  turns = 0;
 }
-unfolding run answer turns_within
+unfolding answer turns_within
 pops_from_nothing = refl
 
 --     xs = [1, 2]
@@ -512,12 +574,14 @@ removes_module = record {
   names = codes "xs" ∷ codes "y" ∷ codes "remove" ∷ [];
 }
 
-removes : run removes_module [] 1 (0 ∷ 0 ∷ 0 ∷ 1 ∷ []) ([]) ≡ record {
+removes : answered removes_module [] 1 (0 ∷ 0 ∷ 0 ∷ 1 ∷ []) ([]) ≡ record {
   events = event.held 0 (ref 0) ∷ event.held 1 none ∷ [];
   heap = object.list 3 ((whole (pos 1)) ∷ []) ∷ method kind.List (codes "remove") (ref 0) ∷ [];
   ending = ended;
+  choices = [];
+  turns = 0;
 }
-unfolding run answer turns_within
+unfolding answer turns_within
 removes = refl
 
 --     [].remove(9)
@@ -527,12 +591,14 @@ removes_from_nothing_module = record {
   names = codes "remove" ∷ [];
 }
 
-removes_from_nothing : run removes_from_nothing_module [] 1 (0 ∷ 0 ∷ []) ([]) ≡ record {
+removes_from_nothing : answered removes_from_nothing_module [] 1 (0 ∷ 0 ∷ []) ([]) ≡ record {
   events = [];
   heap = object.list 0 ([]) ∷ method kind.List (codes "remove") (ref 0) ∷ error (codes "ValueError") ∷ [];
   ending = raised_out (ref 2);
+  choices = [];
+  turns = 0;
 }
-unfolding run answer turns_within
+unfolding answer turns_within
 removes_from_nothing = refl
 
 --     xs = [1]
@@ -545,12 +611,14 @@ clears_and_reverses_module = record {
   names = codes "xs" ∷ codes "reverse" ∷ codes "ys" ∷ codes "copy" ∷ codes "clear" ∷ [];
 }
 
-clears_and_reverses : run clears_and_reverses_module [] 3 (0 ∷ 0 ∷ 0 ∷ 0 ∷ 0 ∷ 0 ∷ 0 ∷ 0 ∷ 0 ∷ []) ([]) ≡ record {
+clears_and_reverses : answered clears_and_reverses_module [] 3 (0 ∷ 0 ∷ 0 ∷ 0 ∷ 0 ∷ 0 ∷ 0 ∷ 0 ∷ 0 ∷ []) ([]) ≡ record {
   events = event.held 0 (ref 0) ∷ event.held 2 (ref 3) ∷ [];
   heap = object.list 2 ([]) ∷ method kind.List (codes "reverse") (ref 0) ∷ method kind.List (codes "copy") (ref 0) ∷ object.list 9 ((whole (pos 1)) ∷ []) ∷ method kind.List (codes "clear") (ref 0) ∷ [];
   ending = ended;
+  choices = [];
+  turns = 0;
 }
-unfolding run answer turns_within
+unfolding answer turns_within
 clears_and_reverses = refl
 
 --     x = [1].index(2)
@@ -561,12 +629,14 @@ counts_module = record {
   names = codes "x" ∷ codes "index" ∷ codes "y" ∷ codes "count" ∷ [];
 }
 
-counts : run counts_module [] 2 (0 ∷ 0 ∷ 4 ∷ 0 ∷ 0 ∷ 5 ∷ []) ([]) ≡ record {
+counts : answered counts_module [] 2 (0 ∷ 0 ∷ 4 ∷ 0 ∷ 0 ∷ 5 ∷ []) ([]) ≡ record {
   events = event.held 0 (whole (pos 4)) ∷ event.held 2 (whole (pos 5)) ∷ [];
   heap = object.list 2 ((whole (pos 1)) ∷ []) ∷ method kind.List (codes "index") (ref 0) ∷ object.tuple 8 object.places ((whole (pos 1)) ∷ []) ∷ method kind.Tuple (codes "count") (ref 2) ∷ [];
   ending = ended;
+  choices = [];
+  turns = 0;
 }
-unfolding run answer turns_within
+unfolding answer turns_within
 counts = refl
 
 --     [].append()
@@ -576,12 +646,14 @@ appends_nothing_module = record {
   names = codes "append" ∷ [];
 }
 
-appends_nothing : run appends_nothing_module [] 1 (0 ∷ 0 ∷ []) ([]) ≡ record {
+appends_nothing : answered appends_nothing_module [] 1 (0 ∷ 0 ∷ []) ([]) ≡ record {
   events = event.fault 1 event.missing_parameter event.on_another None ∷ [];
   heap = object.list 0 ([]) ∷ method kind.List (codes "append") (ref 0) ∷ error (codes "TypeError") ∷ [];
   ending = raised_out (ref 2);
+  choices = [];
+  turns = 0;
 }
-unfolding run answer turns_within
+unfolding answer turns_within
 appends_nothing = refl
 
 -- a value, or at the last number what is given in place of it
@@ -595,12 +667,14 @@ gets_module = record {
   names = codes "d" ∷ codes "x" ∷ codes "get" ∷ codes "y" ∷ codes "z" ∷ [];
 }
 
-gets : run gets_module [] 3 (0 ∷ 0 ∷ 0 ∷ 0 ∷ 0 ∷ 0 ∷ 0 ∷ 1 ∷ 0 ∷ 0 ∷ []) ([]) ≡ record {
+gets : answered gets_module [] 3 (0 ∷ 0 ∷ 0 ∷ 0 ∷ 0 ∷ 0 ∷ 0 ∷ 1 ∷ 0 ∷ 0 ∷ []) ([]) ≡ record {
   events = event.held 0 (ref 0) ∷ event.held 1 (whole (pos 1)) ∷ event.held 3 (whole (pos 5)) ∷ event.held 4 none ∷ [];
   heap = object.dict 3 (((text false), (whole (pos 1))) ∷ []) ∷ method kind.Dict (codes "get") (ref 0) ∷ method kind.Dict (codes "get") (ref 0) ∷ object.dict 16 ([]) ∷ method kind.Dict (codes "get") (ref 3) ∷ [];
   ending = ended;
+  choices = [];
+  turns = 0;
 }
-unfolding run answer turns_within
+unfolding answer turns_within
 gets = refl
 
 --     d = {}
@@ -612,12 +686,14 @@ sets_a_default_module = record {
   names = codes "d" ∷ codes "x" ∷ codes "setdefault" ∷ codes "y" ∷ [];
 }
 
-sets_a_default : run sets_a_default_module [] 2 (0 ∷ 0 ∷ 0 ∷ 0 ∷ 0 ∷ 0 ∷ 0 ∷ []) ([]) ≡ record {
+sets_a_default : answered sets_a_default_module [] 2 (0 ∷ 0 ∷ 0 ∷ 0 ∷ 0 ∷ 0 ∷ 0 ∷ []) ([]) ≡ record {
   events = event.held 0 (ref 0) ∷ event.held 1 (whole (pos 1)) ∷ event.held 3 (whole (pos 1)) ∷ [];
   heap = object.dict 1 (((text false), (whole (pos 1))) ∷ []) ∷ method kind.Dict (codes "setdefault") (ref 0) ∷ method kind.Dict (codes "setdefault") (ref 0) ∷ [];
   ending = ended;
+  choices = [];
+  turns = 0;
 }
-unfolding run answer turns_within
+unfolding answer turns_within
 sets_a_default = refl
 
 --     d = {"a": 1}
@@ -628,12 +704,14 @@ pops_a_pair_module = record {
   names = codes "d" ∷ codes "x" ∷ codes "pop" ∷ [];
 }
 
-pops_a_pair : run pops_a_pair_module [] 1 (0 ∷ 0 ∷ 0 ∷ 0 ∷ []) ([]) ≡ record {
+pops_a_pair : answered pops_a_pair_module [] 1 (0 ∷ 0 ∷ 0 ∷ 0 ∷ []) ([]) ≡ record {
   events = event.held 0 (ref 0) ∷ event.held 1 (whole (pos 1)) ∷ [];
   heap = object.dict 3 ([]) ∷ method kind.Dict (codes "pop") (ref 0) ∷ [];
   ending = ended;
+  choices = [];
+  turns = 0;
 }
-unfolding run answer turns_within
+unfolding answer turns_within
 pops_a_pair = refl
 
 --     d = {"a": 1}
@@ -644,12 +722,14 @@ pops_no_pair_module = record {
   names = codes "d" ∷ codes "x" ∷ codes "pop" ∷ [];
 }
 
-pops_no_pair : run pops_no_pair_module [] 1 (0 ∷ 0 ∷ 0 ∷ 1 ∷ []) ([]) ≡ record {
+pops_no_pair : answered pops_no_pair_module [] 1 (0 ∷ 0 ∷ 0 ∷ 1 ∷ []) ([]) ≡ record {
   events = [];
   heap = object.dict 3 (((text false), (whole (pos 1))) ∷ []) ∷ method kind.Dict (codes "pop") (ref 0) ∷ error (codes "KeyError") ∷ [];
   ending = raised_out (ref 2);
+  choices = [];
+  turns = 0;
 }
-unfolding run answer turns_within
+unfolding answer turns_within
 pops_no_pair = refl
 
 --     d = {1: 2}
@@ -661,12 +741,14 @@ updates_module = record {
   names = codes "d" ∷ codes "update" ∷ codes "e" ∷ codes "copy" ∷ [];
 }
 
-updates : run updates_module [] 2 (0 ∷ 0 ∷ 0 ∷ 0 ∷ 0 ∷ 0 ∷ 0 ∷ []) ([]) ≡ record {
+updates : answered updates_module [] 2 (0 ∷ 0 ∷ 0 ∷ 0 ∷ 0 ∷ 0 ∷ 0 ∷ []) ([]) ≡ record {
   events = event.held 0 (ref 0) ∷ event.held 2 (ref 3) ∷ [];
   heap = object.dict 3 (((whole (pos 1)), (whole (pos 2))) ∷ ((whole (pos 1)), (whole (pos 2))) ∷ []) ∷ method kind.Dict (codes "update") (ref 0) ∷ method kind.Dict (codes "copy") (ref 0) ∷ object.dict 11 (((whole (pos 1)), (whole (pos 2))) ∷ ((whole (pos 1)), (whole (pos 2))) ∷ []) ∷ [];
   ending = ended;
+  choices = [];
+  turns = 0;
 }
-unfolding run answer turns_within
+unfolding answer turns_within
 updates = refl
 
 -- fresh texts until an odd choice
@@ -677,12 +759,14 @@ splits_module = record {
   names = codes "x" ∷ codes "split" ∷ [];
 }
 
-splits : run splits_module [] 1 (0 ∷ 0 ∷ 0 ∷ 3 ∷ 2 ∷ 4 ∷ 1 ∷ []) ([]) ≡ record {
+splits : answered splits_module [] 1 (0 ∷ 0 ∷ 0 ∷ 3 ∷ 2 ∷ 4 ∷ 1 ∷ []) ([]) ≡ record {
   events = event.held 0 (ref 1) ∷ [];
   heap = method kind.Str (codes "split") (text false) ∷ object.list 3 ((text false) ∷ (text true) ∷ []) ∷ [];
   ending = ended;
+  choices = [];
+  turns = 0;
 }
-unfolding run answer turns_within
+unfolding answer turns_within
 splits = refl
 
 --     x = "a".partition("b")
@@ -692,12 +776,14 @@ parts_module = record {
   names = codes "x" ∷ codes "partition" ∷ [];
 }
 
-parts : run parts_module [] 1 (0 ∷ 0 ∷ 1 ∷ 2 ∷ 3 ∷ []) ([]) ≡ record {
+parts : answered parts_module [] 1 (0 ∷ 0 ∷ 1 ∷ 2 ∷ 3 ∷ []) ([]) ≡ record {
   events = event.held 0 (ref 1) ∷ [];
   heap = method kind.Str (codes "partition") (text false) ∷ object.tuple 4 object.parts ((text false) ∷ (text true) ∷ (text false) ∷ []) ∷ [];
   ending = ended;
+  choices = [];
+  turns = 0;
 }
-unfolding run answer turns_within
+unfolding answer turns_within
 parts = refl
 
 --     x = "a".upper()
@@ -709,12 +795,14 @@ asks_a_text_module = record {
   names = codes "x" ∷ codes "upper" ∷ codes "y" ∷ codes "find" ∷ codes "z" ∷ codes "isdigit" ∷ [];
 }
 
-asks_a_text : run asks_a_text_module [] 3 (0 ∷ 0 ∷ 1 ∷ 0 ∷ 0 ∷ 6 ∷ 0 ∷ 0 ∷ 0 ∷ []) ([]) ≡ record {
+asks_a_text : answered asks_a_text_module [] 3 (0 ∷ 0 ∷ 1 ∷ 0 ∷ 0 ∷ 6 ∷ 0 ∷ 0 ∷ 0 ∷ []) ([]) ≡ record {
   events = event.held 0 (text false) ∷ event.held 2 (whole (pos 6)) ∷ event.held 4 (truth true) ∷ [];
   heap = method kind.Str (codes "upper") (text false) ∷ method kind.Str (codes "find") (text false) ∷ method kind.Str (codes "isdigit") (text false) ∷ [];
   ending = ended;
+  choices = [];
+  turns = 0;
 }
-unfolding run answer turns_within
+unfolding answer turns_within
 asks_a_text = refl
 
 --     x = b"a".decode()
@@ -725,12 +813,14 @@ asks_bytes_module = record {
   names = codes "x" ∷ codes "decode" ∷ codes "y" ∷ codes "split" ∷ [];
 }
 
-asks_bytes : run asks_bytes_module [] 2 (0 ∷ 0 ∷ 1 ∷ 0 ∷ 0 ∷ []) ([]) ≡ record {
+asks_bytes : answered asks_bytes_module [] 2 (0 ∷ 0 ∷ 1 ∷ 0 ∷ 0 ∷ []) ([]) ≡ record {
   events = event.held 0 (text false) ∷ event.held 2 (ref 2) ∷ [];
   heap = method kind.Bytes (codes "decode") (octets false) ∷ method kind.Bytes (codes "split") (octets false) ∷ anything ∷ [];
   ending = ended;
+  choices = [];
+  turns = 0;
 }
-unfolding run answer turns_within
+unfolding answer turns_within
 asks_bytes = refl
 
 --     x = True
@@ -741,12 +831,14 @@ asks_a_number_module = record {
   names = codes "x" ∷ codes "y" ∷ codes "bit_length" ∷ [];
 }
 
-asks_a_number : run asks_a_number_module [] 1 (0 ∷ 0 ∷ 0 ∷ 3 ∷ []) ([]) ≡ record {
+asks_a_number : answered asks_a_number_module [] 1 (0 ∷ 0 ∷ 0 ∷ 3 ∷ []) ([]) ≡ record {
   events = event.held 0 (truth true) ∷ event.held 1 (whole (pos 3)) ∷ [];
   heap = method kind.Int (codes "bit_length") (truth true) ∷ [];
   ending = ended;
+  choices = [];
+  turns = 0;
 }
-unfolding run answer turns_within
+unfolding answer turns_within
 asks_a_number = refl
 
 --     x = ValueError("a").args
@@ -756,12 +848,14 @@ reads_arguments_of_an_exception_module = record {
   names = codes "x" ∷ codes "ValueError" ∷ codes "args" ∷ [];
 }
 
-reads_arguments_of_an_exception : run reads_arguments_of_an_exception_module [] 1 (0 ∷ 0 ∷ 0 ∷ []) ([]) ≡ record {
+reads_arguments_of_an_exception : answered reads_arguments_of_an_exception_module [] 1 (0 ∷ 0 ∷ 0 ∷ []) ([]) ≡ record {
   events = event.held 0 (ref 2) ∷ [];
   heap = native (codes "ValueError") ∷ error (codes "ValueError") ∷ object.outside (term.tuple_of term.any) ∷ [];
   ending = ended;
+  choices = [];
+  turns = 0;
 }
-unfolding run answer turns_within
+unfolding answer turns_within
 reads_arguments_of_an_exception = refl
 
 -- a class isn't followed, and a function has no attributes
@@ -773,10 +867,12 @@ reads_an_attribute_of_a_builtin_module = record {
   names = codes "x" ∷ codes "int" ∷ codes "foo" ∷ codes "y" ∷ codes "len" ∷ [];
 }
 
-reads_an_attribute_of_a_builtin : run reads_an_attribute_of_a_builtin_module [] 0 (0 ∷ 0 ∷ 0 ∷ 0 ∷ []) ([]) ≡ record {
+reads_an_attribute_of_a_builtin : answered reads_an_attribute_of_a_builtin_module [] 0 (0 ∷ 0 ∷ 0 ∷ 0 ∷ []) ([]) ≡ record {
   events = event.fault 2 event.attribute_error event.on_another (Some 2) ∷ [];
   heap = native (codes "int") ∷ anything ∷ native (codes "len") ∷ error (codes "AttributeError") ∷ [];
   ending = raised_out (ref 3);
+  choices = [];
+  turns = 0;
 }
-unfolding run answer turns_within
+unfolding answer turns_within
 reads_an_attribute_of_a_builtin = refl

@@ -9,8 +9,8 @@ use Rattle.py_tree.specs.Tree.{Module, Param, node, Exprs, no_exprs, expr, no_bo
 use Rattle.py_meaning.specs.Values.{none, truth, whole, float, text, octets, ref}
 use Rattle.py_meaning.specs.Objects as object
 use Rattle.py_meaning.specs.Events as event
-use Rattle.py_meaning.specs.Runs.{turns_within, answer, ended, raised_out, run}
-use Rattle.py_meaning.proofs.Samples.{error, anything}
+use Rattle.py_meaning.specs.Runs.{turns_within, answer, ended, raised_out}
+use Rattle.py_meaning.proofs.Samples.{answered, error, anything}
 
 --     x = 1
 --     y = x
@@ -20,12 +20,14 @@ names_module = record {
   names = codes "x" ∷ codes "y" ∷ [];
 }
 
-names : run names_module [] 0 (0 ∷ []) ([]) ≡ record {
+names : answered names_module [] 0 (0 ∷ []) ([]) ≡ record {
   events = event.held 0 (whole (pos 1)) ∷ event.held 1 (whole (pos 1)) ∷ [];
   heap = [];
   ending = ended;
+  choices = [];
+  turns = 0;
 }
-unfolding run answer turns_within
+unfolding answer turns_within
 names = refl
 
 -- a whole number is the choice itself
@@ -37,12 +39,14 @@ sums_module = record {
   names = codes "x" ∷ codes "z" ∷ [];
 }
 
-sums : run sums_module [] 0 (0 ∷ 0 ∷ 7 ∷ []) ([]) ≡ record {
+sums : answered sums_module [] 0 (0 ∷ 0 ∷ 7 ∷ []) ([]) ≡ record {
   events = event.held 0 (whole (pos 1)) ∷ event.held 1 (whole (pos 7)) ∷ [];
   heap = [];
   ending = ended;
+  choices = [];
+  turns = 0;
 }
-unfolding run answer turns_within
+unfolding answer turns_within
 sums = refl
 
 --     z = 1 / 2
@@ -52,12 +56,14 @@ divides_module = record {
   names = codes "z" ∷ [];
 }
 
-divides : run divides_module [] 0 (0 ∷ []) ([]) ≡ record {
+divides : answered divides_module [] 0 (0 ∷ []) ([]) ≡ record {
   events = event.held 0 float ∷ [];
   heap = [];
   ending = ended;
+  choices = [];
+  turns = 0;
 }
-unfolding run answer turns_within
+unfolding answer turns_within
 divides = refl
 
 -- of the two kinds of a power the choice picks the float
@@ -68,12 +74,14 @@ raises_to_a_float_module = record {
   names = codes "z" ∷ [];
 }
 
-raises_to_a_float : run raises_to_a_float_module [] 0 (0 ∷ 1 ∷ []) ([]) ≡ record {
+raises_to_a_float : answered raises_to_a_float_module [] 0 (0 ∷ 1 ∷ []) ([]) ≡ record {
   events = event.held 0 float ∷ [];
   heap = [];
   ending = ended;
+  choices = [];
+  turns = 0;
 }
-unfolding run answer turns_within
+unfolding answer turns_within
 raises_to_a_float = refl
 
 --     z = 2 ** 3
@@ -83,12 +91,14 @@ raises_to_a_whole_module = record {
   names = codes "z" ∷ [];
 }
 
-raises_to_a_whole : run raises_to_a_whole_module [] 0 (0 ∷ 2 ∷ 9 ∷ []) ([]) ≡ record {
+raises_to_a_whole : answered raises_to_a_whole_module [] 0 (0 ∷ 2 ∷ 9 ∷ []) ([]) ≡ record {
   events = event.held 0 (whole (pos 9)) ∷ [];
   heap = [];
   ending = ended;
+  choices = [];
+  turns = 0;
 }
-unfolding run answer turns_within
+unfolding answer turns_within
 raises_to_a_whole = refl
 
 --     z = True & False
@@ -98,12 +108,14 @@ joins_bits_of_truth_values_module = record {
   names = codes "z" ∷ [];
 }
 
-joins_bits_of_truth_values : run joins_bits_of_truth_values_module [] 0 (0 ∷ 1 ∷ []) ([]) ≡ record {
+joins_bits_of_truth_values : answered joins_bits_of_truth_values_module [] 0 (0 ∷ 1 ∷ []) ([]) ≡ record {
   events = event.held 0 (truth false) ∷ [];
   heap = [];
   ending = ended;
+  choices = [];
+  turns = 0;
 }
-unfolding run answer turns_within
+unfolding answer turns_within
 joins_bits_of_truth_values = refl
 
 --     z = True | 4
@@ -113,12 +125,14 @@ joins_bits_of_numbers_module = record {
   names = codes "z" ∷ [];
 }
 
-joins_bits_of_numbers : run joins_bits_of_numbers_module [] 0 (0 ∷ 6 ∷ []) ([]) ≡ record {
+joins_bits_of_numbers : answered joins_bits_of_numbers_module [] 0 (0 ∷ 6 ∷ []) ([]) ≡ record {
   events = event.held 0 (whole (pos 6)) ∷ [];
   heap = [];
   ending = ended;
+  choices = [];
+  turns = 0;
 }
-unfolding run answer turns_within
+unfolding answer turns_within
 joins_bits_of_numbers = refl
 
 --     z = 1 << 2
@@ -128,12 +142,14 @@ shifts_module = record {
   names = codes "z" ∷ [];
 }
 
-shifts : run shifts_module [] 0 (0 ∷ 5 ∷ []) ([]) ≡ record {
+shifts : answered shifts_module [] 0 (0 ∷ 5 ∷ []) ([]) ≡ record {
   events = event.held 0 (whole (pos 5)) ∷ [];
   heap = [];
   ending = ended;
+  choices = [];
+  turns = 0;
 }
-unfolding run answer turns_within
+unfolding answer turns_within
 shifts = refl
 
 --     z = "a" + "b"
@@ -143,12 +159,14 @@ joins_texts_module = record {
   names = codes "z" ∷ [];
 }
 
-joins_texts : run joins_texts_module [] 0 (0 ∷ 3 ∷ []) ([]) ≡ record {
+joins_texts : answered joins_texts_module [] 0 (0 ∷ 3 ∷ []) ([]) ≡ record {
   events = event.held 0 (text false) ∷ [];
   heap = [];
   ending = ended;
+  choices = [];
+  turns = 0;
 }
-unfolding run answer turns_within
+unfolding answer turns_within
 joins_texts = refl
 
 --     z = 2 * "a"
@@ -158,12 +176,14 @@ repeats_a_text_module = record {
   names = codes "z" ∷ [];
 }
 
-repeats_a_text : run repeats_a_text_module [] 0 (0 ∷ 4 ∷ []) ([]) ≡ record {
+repeats_a_text : answered repeats_a_text_module [] 0 (0 ∷ 4 ∷ []) ([]) ≡ record {
   events = event.held 0 (text true) ∷ [];
   heap = [];
   ending = ended;
+  choices = [];
+  turns = 0;
 }
-unfolding run answer turns_within
+unfolding answer turns_within
 repeats_a_text = refl
 
 --     z = b"a" % 3
@@ -173,12 +193,14 @@ formats_bytes_module = record {
   names = codes "z" ∷ [];
 }
 
-formats_bytes : run formats_bytes_module [] 0 (0 ∷ 2 ∷ []) ([]) ≡ record {
+formats_bytes : answered formats_bytes_module [] 0 (0 ∷ 2 ∷ []) ([]) ≡ record {
   events = event.held 0 (octets true) ∷ [];
   heap = [];
   ending = ended;
+  choices = [];
+  turns = 0;
 }
-unfolding run answer turns_within
+unfolding answer turns_within
 formats_bytes = refl
 
 -- a new list, at the place of the sum
@@ -189,12 +211,14 @@ joins_lists_module = record {
   names = codes "z" ∷ [];
 }
 
-joins_lists : run joins_lists_module [] 0 (0 ∷ []) ([]) ≡ record {
+joins_lists : answered joins_lists_module [] 0 (0 ∷ []) ([]) ≡ record {
   events = event.held 0 (ref 2) ∷ [];
   heap = object.list 2 ((whole (pos 1)) ∷ []) ∷ object.list 4 ((whole (pos 2)) ∷ []) ∷ object.list 5 ((whole (pos 1)) ∷ (whole (pos 2)) ∷ []) ∷ [];
   ending = ended;
+  choices = [];
+  turns = 0;
 }
-unfolding run answer turns_within
+unfolding answer turns_within
 joins_lists = refl
 
 -- all parts once more as long as the choice is even
@@ -205,12 +229,14 @@ repeats_a_list_module = record {
   names = codes "z" ∷ [];
 }
 
-repeats_a_list : run repeats_a_list_module [] 0 (0 ∷ 0 ∷ 2 ∷ 1 ∷ []) ([]) ≡ record {
+repeats_a_list : answered repeats_a_list_module [] 0 (0 ∷ 0 ∷ 2 ∷ 1 ∷ []) ([]) ≡ record {
   events = event.held 0 (ref 1) ∷ [];
   heap = object.list 3 ((whole (pos 1)) ∷ (whole (pos 2)) ∷ []) ∷ object.list 5 ((whole (pos 1)) ∷ (whole (pos 2)) ∷ (whole (pos 1)) ∷ (whole (pos 2)) ∷ []) ∷ [];
   ending = ended;
+  choices = [];
+  turns = 0;
 }
-unfolding run answer turns_within
+unfolding answer turns_within
 repeats_a_list = refl
 
 --     z = 3 * (1,)
@@ -220,12 +246,14 @@ repeats_a_tuple_module = record {
   names = codes "z" ∷ [];
 }
 
-repeats_a_tuple : run repeats_a_tuple_module [] 0 (0 ∷ 1 ∷ []) ([]) ≡ record {
+repeats_a_tuple : answered repeats_a_tuple_module [] 0 (0 ∷ 1 ∷ []) ([]) ≡ record {
   events = event.held 0 (ref 1) ∷ [];
   heap = object.tuple 3 object.places ((whole (pos 1)) ∷ []) ∷ object.tuple 4 object.parts ([]) ∷ [];
   ending = ended;
+  choices = [];
+  turns = 0;
 }
-unfolding run answer turns_within
+unfolding answer turns_within
 repeats_a_tuple = refl
 
 --     z = 1 @ 2
@@ -235,12 +263,14 @@ multiplies_matrices_module = record {
   names = codes "z" ∷ [];
 }
 
-multiplies_matrices : run multiplies_matrices_module [] 0 (0 ∷ []) ([]) ≡ record {
+multiplies_matrices : answered multiplies_matrices_module [] 0 (0 ∷ []) ([]) ≡ record {
   events = event.fault 1 event.unsupported_operands event.on_another None ∷ [];
   heap = error (codes "TypeError") ∷ [];
   ending = raised_out (ref 0);
+  choices = [];
+  turns = 0;
 }
-unfolding run answer turns_within
+unfolding answer turns_within
 multiplies_matrices = refl
 
 --     z = 1 + "a"
@@ -250,12 +280,14 @@ adds_a_text_to_a_number_module = record {
   names = codes "z" ∷ [];
 }
 
-adds_a_text_to_a_number : run adds_a_text_to_a_number_module [] 0 (0 ∷ []) ([]) ≡ record {
+adds_a_text_to_a_number : answered adds_a_text_to_a_number_module [] 0 (0 ∷ []) ([]) ≡ record {
   events = event.fault 1 event.unsupported_operands event.on_another None ∷ [];
   heap = error (codes "TypeError") ∷ [];
   ending = raised_out (ref 0);
+  choices = [];
+  turns = 0;
 }
-unfolding run answer turns_within
+unfolding answer turns_within
 adds_a_text_to_a_number = refl
 
 --     z = -1
@@ -265,12 +297,14 @@ negates_module = record {
   names = codes "z" ∷ [];
 }
 
-negates : run negates_module [] 0 (0 ∷ 3 ∷ []) ([]) ≡ record {
+negates : answered negates_module [] 0 (0 ∷ 3 ∷ []) ([]) ≡ record {
   events = event.held 0 (whole (pos 3)) ∷ [];
   heap = [];
   ending = ended;
+  choices = [];
+  turns = 0;
 }
-unfolding run answer turns_within
+unfolding answer turns_within
 negates = refl
 
 --     z = ~True
@@ -280,12 +314,14 @@ inverts_module = record {
   names = codes "z" ∷ [];
 }
 
-inverts : run inverts_module [] 0 (0 ∷ 3 ∷ []) ([]) ≡ record {
+inverts : answered inverts_module [] 0 (0 ∷ 3 ∷ []) ([]) ≡ record {
   events = event.held 0 (whole (pos 3)) ∷ [];
   heap = [];
   ending = ended;
+  choices = [];
+  turns = 0;
 }
-unfolding run answer turns_within
+unfolding answer turns_within
 inverts = refl
 
 --     z = -"a"
@@ -295,12 +331,14 @@ negates_a_text_module = record {
   names = codes "z" ∷ [];
 }
 
-negates_a_text : run negates_a_text_module [] 0 (0 ∷ []) ([]) ≡ record {
+negates_a_text : answered negates_a_text_module [] 0 (0 ∷ []) ([]) ≡ record {
   events = event.fault 1 event.unsupported_operands event.on_another None ∷ [];
   heap = error (codes "TypeError") ∷ [];
   ending = raised_out (ref 0);
+  choices = [];
+  turns = 0;
 }
-unfolding run answer turns_within
+unfolding answer turns_within
 negates_a_text = refl
 
 -- `not` may not raise, and takes no choice here
@@ -312,12 +350,14 @@ denies_module = record {
   names = codes "z" ∷ codes "y" ∷ [];
 }
 
-denies : run denies_module [] 0 ([]) ([]) ≡ record {
+denies : answered denies_module [] 0 ([]) ([]) ≡ record {
   events = event.held 1 (truth false) ∷ event.held 0 (truth true) ∷ [];
   heap = [];
   ending = ended;
+  choices = [];
+  turns = 0;
 }
-unfolding run answer turns_within
+unfolding answer turns_within
 denies = refl
 
 --     z = 1 < 2.0
@@ -327,12 +367,14 @@ compares_numbers_module = record {
   names = codes "z" ∷ [];
 }
 
-compares_numbers : run compares_numbers_module [] 0 (0 ∷ 0 ∷ []) ([]) ≡ record {
+compares_numbers : answered compares_numbers_module [] 0 (0 ∷ 0 ∷ []) ([]) ≡ record {
   events = event.held 0 (truth true) ∷ [];
   heap = [];
   ending = ended;
+  choices = [];
+  turns = 0;
 }
-unfolding run answer turns_within
+unfolding answer turns_within
 compares_numbers = refl
 
 --     z = 1 < "a"
@@ -342,12 +384,14 @@ compares_a_number_with_a_text_module = record {
   names = codes "z" ∷ [];
 }
 
-compares_a_number_with_a_text : run compares_a_number_with_a_text_module [] 0 (0 ∷ []) ([]) ≡ record {
+compares_a_number_with_a_text : answered compares_a_number_with_a_text_module [] 0 (0 ∷ []) ([]) ≡ record {
   events = event.fault 1 event.unsupported_operands event.on_another None ∷ [];
   heap = error (codes "TypeError") ∷ [];
   ending = raised_out (ref 0);
+  choices = [];
+  turns = 0;
 }
-unfolding run answer turns_within
+unfolding answer turns_within
 compares_a_number_with_a_text = refl
 
 --     z = 1 == "a"
@@ -357,12 +401,14 @@ compares_for_equality_module = record {
   names = codes "z" ∷ [];
 }
 
-compares_for_equality : run compares_for_equality_module [] 0 (0 ∷ 1 ∷ []) ([]) ≡ record {
+compares_for_equality : answered compares_for_equality_module [] 0 (0 ∷ 1 ∷ []) ([]) ≡ record {
   events = event.held 0 (truth false) ∷ [];
   heap = [];
   ending = ended;
+  choices = [];
+  turns = 0;
 }
-unfolding run answer turns_within
+unfolding answer turns_within
 compares_for_equality = refl
 
 --     z = None is None
@@ -374,12 +420,14 @@ is_none_module = record {
   names = codes "z" ∷ codes "y" ∷ codes "x" ∷ [];
 }
 
-is_none : run is_none_module [] 0 (0 ∷ 0 ∷ 0 ∷ []) ([]) ≡ record {
+is_none : answered is_none_module [] 0 (0 ∷ 0 ∷ 0 ∷ []) ([]) ≡ record {
   events = event.held 2 (truth false) ∷ event.held 1 (truth false) ∷ event.held 0 (truth true) ∷ [];
   heap = [];
   ending = ended;
+  choices = [];
+  turns = 0;
 }
-unfolding run answer turns_within
+unfolding answer turns_within
 is_none = refl
 
 -- of numbers it is not known
@@ -390,12 +438,14 @@ is_the_same_number_module = record {
   names = codes "z" ∷ [];
 }
 
-is_the_same_number : run is_the_same_number_module [] 0 (0 ∷ 1 ∷ []) ([]) ≡ record {
+is_the_same_number : answered is_the_same_number_module [] 0 (0 ∷ 1 ∷ []) ([]) ≡ record {
   events = event.held 0 (truth false) ∷ [];
   heap = [];
   ending = ended;
+  choices = [];
+  turns = 0;
 }
-unfolding run answer turns_within
+unfolding answer turns_within
 is_the_same_number = refl
 
 --     z = True is True
@@ -406,12 +456,14 @@ is_the_same_truth_value_module = record {
   names = codes "z" ∷ codes "y" ∷ [];
 }
 
-is_the_same_truth_value : run is_the_same_truth_value_module [] 0 (0 ∷ 0 ∷ []) ([]) ≡ record {
+is_the_same_truth_value : answered is_the_same_truth_value_module [] 0 (0 ∷ 0 ∷ []) ([]) ≡ record {
   events = event.held 1 (truth false) ∷ event.held 0 (truth true) ∷ [];
   heap = [];
   ending = ended;
+  choices = [];
+  turns = 0;
 }
-unfolding run answer turns_within
+unfolding answer turns_within
 is_the_same_truth_value = refl
 
 --     z = 1 in [2]
@@ -422,12 +474,14 @@ is_within_module = record {
   names = codes "z" ∷ codes "y" ∷ [];
 }
 
-is_within : run is_within_module [] 0 (0 ∷ 1 ∷ 0 ∷ 0 ∷ []) ([]) ≡ record {
+is_within : answered is_within_module [] 0 (0 ∷ 1 ∷ 0 ∷ 0 ∷ []) ([]) ≡ record {
   events = event.held 1 (truth true) ∷ event.held 0 (truth false) ∷ [];
   heap = object.list 3 ((whole (pos 2)) ∷ []) ∷ [];
   ending = ended;
+  choices = [];
+  turns = 0;
 }
-unfolding run answer turns_within
+unfolding answer turns_within
 is_within = refl
 
 --     z = "a" in b"x"
@@ -437,12 +491,14 @@ is_within_bytes_module = record {
   names = codes "z" ∷ [];
 }
 
-is_within_bytes : run is_within_bytes_module [] 0 (0 ∷ []) ([]) ≡ record {
+is_within_bytes : answered is_within_bytes_module [] 0 (0 ∷ []) ([]) ≡ record {
   events = event.fault 1 event.unsupported_operands event.on_another None ∷ [];
   heap = error (codes "TypeError") ∷ [];
   ending = raised_out (ref 0);
+  choices = [];
+  turns = 0;
 }
-unfolding run answer turns_within
+unfolding answer turns_within
 is_within_bytes = refl
 
 -- `and` and `or` give one of their operands, and the second isn't evaluated where the first decides
@@ -455,12 +511,14 @@ gives_an_operand_module = record {
   names = codes "z" ∷ codes "y" ∷ codes "x" ∷ codes "nope" ∷ [];
 }
 
-gives_an_operand : run gives_an_operand_module [] 0 ([]) ([]) ≡ record {
+gives_an_operand : answered gives_an_operand_module [] 0 ([]) ([]) ≡ record {
   events = event.held 2 (whole (pos 2)) ∷ event.held 1 none ∷ event.held 0 (text false) ∷ [];
   heap = [];
   ending = ended;
+  choices = [];
+  turns = 0;
 }
-unfolding run answer turns_within
+unfolding answer turns_within
 gives_an_operand = refl
 
 -- the truth of a float is a choice
@@ -471,12 +529,14 @@ chooses_by_a_float_module = record {
   names = codes "z" ∷ [];
 }
 
-chooses_by_a_float : run chooses_by_a_float_module [] 0 (1 ∷ []) ([]) ≡ record {
+chooses_by_a_float : answered chooses_by_a_float_module [] 0 (1 ∷ []) ([]) ≡ record {
   events = event.held 0 (whole (pos 1)) ∷ [];
   heap = [];
   ending = ended;
+  choices = [];
+  turns = 0;
 }
-unfolding run answer turns_within
+unfolding answer turns_within
 chooses_by_a_float = refl
 
 -- the choice 63 + 64 * 35 raises the class of number 35 mod 34; that is no event
@@ -487,12 +547,14 @@ raises_by_choice_module = record {
   names = codes "z" ∷ [];
 }
 
-raises_by_choice : run raises_by_choice_module [] 0 (2303 ∷ []) ([]) ≡ record {
+raises_by_choice : answered raises_by_choice_module [] 0 (2303 ∷ []) ([]) ≡ record {
   events = [];
   heap = error (codes "SystemExit") ∷ [];
   ending = raised_out (ref 0);
+  choices = [];
+  turns = 0;
 }
-unfolding run answer turns_within
+unfolding answer turns_within
 raises_by_choice = refl
 
 -- nothing is known of a name that isn't bound, nor of a sum with it
@@ -503,12 +565,14 @@ adds_to_anything_module = record {
   names = codes "z" ∷ codes "nope" ∷ [];
 }
 
-adds_to_anything : run adds_to_anything_module [] 0 (0 ∷ 0 ∷ []) ([]) ≡ record {
+adds_to_anything : answered adds_to_anything_module [] 0 (0 ∷ 0 ∷ []) ([]) ≡ record {
   events = event.held 0 (ref 1) ∷ [];
   heap = anything ∷ anything ∷ [];
   ending = ended;
+  choices = [];
+  turns = 0;
 }
-unfolding run answer turns_within
+unfolding answer turns_within
 adds_to_anything = refl
 
 --     z = nope == 1
@@ -519,12 +583,14 @@ compares_with_anything_module = record {
   names = codes "z" ∷ codes "nope" ∷ codes "y" ∷ [];
 }
 
-compares_with_anything : run compares_with_anything_module [] 0 (0 ∷ 0 ∷ 1 ∷ 0 ∷ 0 ∷ []) ([]) ≡ record {
+compares_with_anything : answered compares_with_anything_module [] 0 (0 ∷ 0 ∷ 1 ∷ 0 ∷ 0 ∷ []) ([]) ≡ record {
   events = event.held 2 (ref 2) ∷ event.held 0 (truth false) ∷ [];
   heap = anything ∷ anything ∷ anything ∷ [];
   ending = ended;
+  choices = [];
+  turns = 0;
 }
-unfolding run answer turns_within
+unfolding answer turns_within
 compares_with_anything = refl
 
 --     x = 1
@@ -535,12 +601,14 @@ adds_in_place_module = record {
   names = codes "x" ∷ [];
 }
 
-adds_in_place : run adds_in_place_module [] 0 (0 ∷ 0 ∷ 8 ∷ []) ([]) ≡ record {
+adds_in_place : answered adds_in_place_module [] 0 (0 ∷ 0 ∷ 8 ∷ []) ([]) ≡ record {
   events = event.held 0 (whole (pos 8)) ∷ [];
   heap = [];
   ending = ended;
+  choices = [];
+  turns = 0;
 }
-unfolding run answer turns_within
+unfolding answer turns_within
 adds_in_place = refl
 
 -- the list itself grows
@@ -553,12 +621,14 @@ extends_in_place_module = record {
   names = codes "xs" ∷ codes "ys" ∷ [];
 }
 
-extends_in_place : run extends_in_place_module [] 0 (0 ∷ 0 ∷ 0 ∷ 0 ∷ 2 ∷ 1 ∷ []) ([]) ≡ record {
+extends_in_place : answered extends_in_place_module [] 0 (0 ∷ 0 ∷ 0 ∷ 0 ∷ 2 ∷ 1 ∷ []) ([]) ≡ record {
   events = event.held 0 (ref 0) ∷ event.held 1 (ref 0) ∷ [];
   heap = object.list 2 ((whole (pos 1)) ∷ (text true) ∷ []) ∷ [];
   ending = ended;
+  choices = [];
+  turns = 0;
 }
-unfolding run answer turns_within
+unfolding answer turns_within
 extends_in_place = refl
 
 --     xs = [1]
@@ -569,12 +639,14 @@ extends_by_a_number_module = record {
   names = codes "xs" ∷ [];
 }
 
-extends_by_a_number : run extends_by_a_number_module [] 0 (0 ∷ 0 ∷ []) ([]) ≡ record {
+extends_by_a_number : answered extends_by_a_number_module [] 0 (0 ∷ 0 ∷ []) ([]) ≡ record {
   events = event.fault 2 event.not_iterable event.on_another None ∷ [];
   heap = object.list 2 ((whole (pos 1)) ∷ []) ∷ error (codes "TypeError") ∷ [];
   ending = raised_out (ref 1);
+  choices = [];
+  turns = 0;
 }
-unfolding run answer turns_within
+unfolding answer turns_within
 extends_by_a_number = refl
 
 --     xs = [1]
@@ -585,10 +657,12 @@ repeats_in_place_module = record {
   names = codes "xs" ∷ [];
 }
 
-repeats_in_place : run repeats_in_place_module [] 0 (0 ∷ 0 ∷ 0 ∷ 0 ∷ 1 ∷ []) ([]) ≡ record {
+repeats_in_place : answered repeats_in_place_module [] 0 (0 ∷ 0 ∷ 0 ∷ 0 ∷ 1 ∷ []) ([]) ≡ record {
   events = event.held 0 (ref 0) ∷ [];
   heap = object.list 2 ((whole (pos 1)) ∷ (whole (pos 1)) ∷ []) ∷ [];
   ending = ended;
+  choices = [];
+  turns = 0;
 }
-unfolding run answer turns_within
+unfolding answer turns_within
 repeats_in_place = refl

@@ -3,11 +3,16 @@ use Rattle.std.specs.Prelude.{ℕ, List, Option, unwrap_or}
 use Rattle.builtin_stubs.specs.declared.basic.Basic.{Basic}
 use Rattle.builtin_stubs.specs.Natives.{function_number, method_number}
 use Rattle.py_tree.specs.declared.literal.Literal.{Literal}
-use Rattle.py_tree.specs.Tree.{Param}
+use Rattle.py_tree.specs.Tree.{Param, Module}
+use Rattle.type_terms.specs.Stubs.{Stub}
 use Rattle.type_terms.specs.Terms as term
 use Rattle.py_meaning.specs.Values.{Value}
 use Rattle.py_meaning.specs.Objects as object
 use Rattle.py_meaning.specs.Objects.{Object}
+use Rattle.py_meaning.specs.Events.{Event}
+use Rattle.py_meaning.specs.Actions.{OutsideCall}
+use Rattle.py_meaning.specs.Runs.{Ending, Answer, run_of, answer}
+use Rattle.py_meaning.specs.Laws.{reached}
 
 abbrev pub param : ℕ → Option Literal → Param
 param name default = record { name = name; default = default }
@@ -25,3 +30,17 @@ error name = object.outside (term.class name)
 
 abbrev pub anything : Object
 anything = object.outside term.any
+
+-- what is seen of a run, and what is left of its choices and turns
+pub record Seen : Type 0 where
+  pub events : List Event
+  pub heap : List Object
+  pub ending : Ending
+  pub choices : List ℕ
+  pub turns : ℕ
+
+abbrev seen_of : Answer (Unit {0}) → Seen
+seen_of r = record { events = (run_of r).events; heap = (run_of r).heap; ending = (run_of r).ending; choices = (reached r).choices; turns = (reached r).turns }
+
+abbrev pub answered : Module → List (List ℕ × Stub) → (turns : ℕ) → (choices : List ℕ) → List OutsideCall → Seen
+answered m stubs n choices calls = seen_of (answer m stubs n choices calls)

@@ -7,8 +7,8 @@ use Rattle.py_tree.specs.Tree.{Module, Param, node, Exprs, no_exprs, expr, no_bo
 use Rattle.py_meaning.specs.Values.{truth, whole, text, ref}
 use Rattle.py_meaning.specs.Objects as object
 use Rattle.py_meaning.specs.Events as event
-use Rattle.py_meaning.specs.Runs.{turns_within, answer, ended, raised_out, ran_out_of_turns, run}
-use Rattle.py_meaning.proofs.Samples.{native, error, anything}
+use Rattle.py_meaning.specs.Runs.{turns_within, answer, ended, raised_out, ran_out_of_turns}
+use Rattle.py_meaning.proofs.Samples.{answered, native, error, anything}
 
 --     if 0:
 --         x = 1
@@ -22,12 +22,14 @@ takes_an_arm_module = record {
   names = codes "x" ∷ [];
 }
 
-takes_an_arm : run takes_an_arm_module [] 0 ([]) ([]) ≡ record {
+takes_an_arm : answered takes_an_arm_module [] 0 ([]) ([]) ≡ record {
   events = event.held 0 (whole (pos 2)) ∷ [];
   heap = [];
   ending = ended;
+  choices = [];
+  turns = 0;
 }
-unfolding run answer turns_within
+unfolding answer turns_within
 takes_an_arm = refl
 
 --     if 0:
@@ -40,12 +42,14 @@ takes_no_arm_module = record {
   names = codes "x" ∷ [];
 }
 
-takes_no_arm : run takes_no_arm_module [] 0 ([]) ([]) ≡ record {
+takes_no_arm : answered takes_no_arm_module [] 0 ([]) ([]) ≡ record {
   events = event.held 0 (whole (pos 3)) ∷ [];
   heap = [];
   ending = ended;
+  choices = [];
+  turns = 0;
 }
-unfolding run answer turns_within
+unfolding answer turns_within
 takes_no_arm = refl
 
 -- a turn for each time through the body
@@ -58,12 +62,14 @@ loops_twice_module = record {
   names = codes "n" ∷ [];
 }
 
-loops_twice : run loops_twice_module [] 2 (0 ∷ 0 ∷ 0 ∷ 0 ∷ 0 ∷ 0 ∷ 0 ∷ 1 ∷ 0 ∷ []) ([]) ≡ record {
+loops_twice : answered loops_twice_module [] 2 (0 ∷ 0 ∷ 0 ∷ 0 ∷ 0 ∷ 0 ∷ 0 ∷ 1 ∷ 0 ∷ []) ([]) ≡ record {
   events = event.held 0 (truth false) ∷ [];
   heap = [];
   ending = ended;
+  choices = [];
+  turns = 0;
 }
-unfolding run answer turns_within
+unfolding answer turns_within
 loops_twice = refl
 
 --     while True:
@@ -74,12 +80,14 @@ loops_too_long_module = record {
   names = [];
 }
 
-loops_too_long : run loops_too_long_module [] 3 ([]) ([]) ≡ record {
+loops_too_long : answered loops_too_long_module [] 3 ([]) ([]) ≡ record {
   events = [];
   heap = [];
   ending = ran_out_of_turns;
+  choices = [];
+  turns = 0;
 }
-unfolding run answer turns_within
+unfolding answer turns_within
 loops_too_long = refl
 
 --     while True:
@@ -92,12 +100,14 @@ breaks_out_module = record {
   names = codes "x" ∷ [];
 }
 
-breaks_out : run breaks_out_module [] 1 ([]) ([]) ≡ record {
+breaks_out : answered breaks_out_module [] 1 ([]) ([]) ≡ record {
   events = event.held 0 (whole (pos 1)) ∷ [];
   heap = [];
   ending = ended;
+  choices = [];
+  turns = 0;
 }
-unfolding run answer turns_within
+unfolding answer turns_within
 breaks_out = refl
 
 --     for n in (1,):
@@ -109,12 +119,14 @@ continues_with_the_next_module = record {
   names = codes "n" ∷ codes "x" ∷ [];
 }
 
-continues_with_the_next : run continues_with_the_next_module [] 1 (0 ∷ 0 ∷ 0 ∷ 1 ∷ []) ([]) ≡ record {
+continues_with_the_next : answered continues_with_the_next_module [] 1 (0 ∷ 0 ∷ 0 ∷ 1 ∷ []) ([]) ≡ record {
   events = event.held 0 (whole (pos 1)) ∷ [];
   heap = object.tuple 2 object.places ((whole (pos 1)) ∷ []) ∷ [];
   ending = ended;
+  choices = [];
+  turns = 0;
 }
-unfolding run answer turns_within
+unfolding answer turns_within
 continues_with_the_next = refl
 
 --     pass
@@ -128,12 +140,14 @@ passes_module = record {
   names = codes "x" ∷ codes "int" ∷ codes "y" ∷ [];
 }
 
-passes : run passes_module [] 0 ([]) ([]) ≡ record {
+passes : answered passes_module [] 0 ([]) ([]) ≡ record {
   events = event.held 2 (whole (pos 4)) ∷ [];
   heap = [];
   ending = ended;
+  choices = [];
+  turns = 0;
 }
-unfolding run answer turns_within
+unfolding answer turns_within
 passes = refl
 
 -- the statement itself does nothing
@@ -145,12 +159,14 @@ declares_a_global_module = record {
   names = codes "x" ∷ [];
 }
 
-declares_a_global : run declares_a_global_module [] 0 ([]) ([]) ≡ record {
+declares_a_global : answered declares_a_global_module [] 0 ([]) ([]) ≡ record {
   events = event.held 0 (whole (pos 1)) ∷ [];
   heap = [];
   ending = ended;
+  choices = [];
+  turns = 0;
 }
-unfolding run answer turns_within
+unfolding answer turns_within
 declares_a_global = refl
 
 -- the object is evaluated, and no more
@@ -162,12 +178,14 @@ annotates_an_attribute_module = record {
   names = codes "x" ∷ codes "a" ∷ codes "int" ∷ [];
 }
 
-annotates_an_attribute : run annotates_an_attribute_module [] 0 (0 ∷ []) ([]) ≡ record {
+annotates_an_attribute : answered annotates_an_attribute_module [] 0 (0 ∷ []) ([]) ≡ record {
   events = event.held 0 (whole (pos 1)) ∷ [];
   heap = [];
   ending = ended;
+  choices = [];
+  turns = 0;
 }
-unfolding run answer turns_within
+unfolding answer turns_within
 annotates_an_attribute = refl
 
 -- the message isn't evaluated
@@ -178,12 +196,14 @@ asserts_what_is_true_module = record {
   names = codes "nope" ∷ [];
 }
 
-asserts_what_is_true : run asserts_what_is_true_module [] 0 ([]) ([]) ≡ record {
+asserts_what_is_true : answered asserts_what_is_true_module [] 0 ([]) ([]) ≡ record {
   events = [];
   heap = [];
   ending = ended;
+  choices = [];
+  turns = 0;
 }
-unfolding run answer turns_within
+unfolding answer turns_within
 asserts_what_is_true = refl
 
 -- the class is read, called and raised: three steps that may raise
@@ -194,12 +214,14 @@ asserts_what_is_false_module = record {
   names = [];
 }
 
-asserts_what_is_false : run asserts_what_is_false_module [] 1 (0 ∷ 0 ∷ 0 ∷ []) ([]) ≡ record {
+asserts_what_is_false : answered asserts_what_is_false_module [] 1 (0 ∷ 0 ∷ 0 ∷ []) ([]) ≡ record {
   events = [];
   heap = native (codes "AssertionError") ∷ error (codes "AssertionError") ∷ [];
   ending = raised_out (ref 1);
+  choices = [];
+  turns = 0;
 }
-unfolding run answer turns_within
+unfolding answer turns_within
 asserts_what_is_false = refl
 
 --     raise ValueError
@@ -209,12 +231,14 @@ raises_a_class_module = record {
   names = codes "ValueError" ∷ [];
 }
 
-raises_a_class : run raises_a_class_module [] 1 (0 ∷ 0 ∷ 0 ∷ []) ([]) ≡ record {
+raises_a_class : answered raises_a_class_module [] 1 (0 ∷ 0 ∷ 0 ∷ []) ([]) ≡ record {
   events = [];
   heap = native (codes "ValueError") ∷ error (codes "ValueError") ∷ [];
   ending = raised_out (ref 1);
+  choices = [];
+  turns = 0;
 }
-unfolding run answer turns_within
+unfolding answer turns_within
 raises_a_class = refl
 
 -- the class call of a `raise` is a turn
@@ -225,12 +249,14 @@ raises_a_class_without_turns_module = record {
   names = codes "ValueError" ∷ [];
 }
 
-raises_a_class_without_turns : run raises_a_class_without_turns_module [] 0 (0 ∷ 0 ∷ 0 ∷ []) ([]) ≡ record {
+raises_a_class_without_turns : answered raises_a_class_without_turns_module [] 0 (0 ∷ 0 ∷ 0 ∷ []) ([]) ≡ record {
   events = [];
   heap = native (codes "ValueError") ∷ [];
   ending = ran_out_of_turns;
+  choices = 0 ∷ 0 ∷ [];
+  turns = 0;
 }
-unfolding run answer turns_within
+unfolding answer turns_within
 raises_a_class_without_turns = refl
 
 -- a TypeError that is no event
@@ -241,12 +267,14 @@ raises_what_is_no_exception_module = record {
   names = [];
 }
 
-raises_what_is_no_exception : run raises_what_is_no_exception_module [] 0 (0 ∷ 0 ∷ []) ([]) ≡ record {
+raises_what_is_no_exception : answered raises_what_is_no_exception_module [] 0 (0 ∷ 0 ∷ []) ([]) ≡ record {
   events = [];
   heap = error (codes "TypeError") ∷ [];
   ending = raised_out (ref 0);
+  choices = [];
+  turns = 0;
 }
-unfolding run answer turns_within
+unfolding answer turns_within
 raises_what_is_no_exception = refl
 
 --     raise ValueError() from nope
@@ -256,12 +284,14 @@ raises_with_a_cause_module = record {
   names = codes "ValueError" ∷ codes "nope" ∷ [];
 }
 
-raises_with_a_cause : run raises_with_a_cause_module [] 1 (0 ∷ 0 ∷ 0 ∷ 0 ∷ 0 ∷ []) ([]) ≡ record {
+raises_with_a_cause : answered raises_with_a_cause_module [] 1 (0 ∷ 0 ∷ 0 ∷ 0 ∷ 0 ∷ []) ([]) ≡ record {
   events = [];
   heap = native (codes "ValueError") ∷ error (codes "ValueError") ∷ anything ∷ [];
   ending = raised_out (ref 1);
+  choices = [];
+  turns = 0;
 }
-unfolding run answer turns_within
+unfolding answer turns_within
 raises_with_a_cause = refl
 
 --     raise
@@ -271,12 +301,14 @@ raises_nothing_module = record {
   names = [];
 }
 
-raises_nothing : run raises_nothing_module [] 0 (0 ∷ []) ([]) ≡ record {
+raises_nothing : answered raises_nothing_module [] 0 (0 ∷ []) ([]) ≡ record {
   events = [];
   heap = error (codes "RuntimeError") ∷ [];
   ending = raised_out (ref 0);
+  choices = [];
+  turns = 0;
 }
-unfolding run answer turns_within
+unfolding answer turns_within
 raises_nothing = refl
 
 --     try:
@@ -290,12 +322,14 @@ unbinds_a_name_after_its_clause_module = record {
   names = codes "ValueError" ∷ codes "e" ∷ codes "x" ∷ codes "y" ∷ [];
 }
 
-unbinds_a_name_after_its_clause : run unbinds_a_name_after_its_clause_module [] 1 (0 ∷ 0 ∷ 0 ∷ 0 ∷ 0 ∷ 0 ∷ 0 ∷ 0 ∷ []) ([]) ≡ record {
+unbinds_a_name_after_its_clause : answered unbinds_a_name_after_its_clause_module [] 1 (0 ∷ 0 ∷ 0 ∷ 0 ∷ 0 ∷ 0 ∷ 0 ∷ 0 ∷ []) ([]) ≡ record {
   events = [];
   heap = native (codes "ValueError") ∷ error (codes "ValueError") ∷ native (codes "ValueError") ∷ error (codes "NameError") ∷ [];
   ending = raised_out (ref 3);
+  choices = [];
+  turns = 0;
 }
-unfolding run answer turns_within
+unfolding answer turns_within
 unbinds_a_name_after_its_clause = refl
 
 --     try:
@@ -312,12 +346,14 @@ passes_over_a_clause_module = record {
   names = codes "KeyError" ∷ codes "IndexError" ∷ codes "x" ∷ codes "LookupError" ∷ [];
 }
 
-passes_over_a_clause : run passes_over_a_clause_module [] 1 (0 ∷ 0 ∷ 0 ∷ 0 ∷ 0 ∷ 0 ∷ 0 ∷ []) ([]) ≡ record {
+passes_over_a_clause : answered passes_over_a_clause_module [] 1 (0 ∷ 0 ∷ 0 ∷ 0 ∷ 0 ∷ 0 ∷ 0 ∷ []) ([]) ≡ record {
   events = event.held 2 (whole (pos 2)) ∷ [];
   heap = native (codes "KeyError") ∷ error (codes "KeyError") ∷ native (codes "IndexError") ∷ native (codes "LookupError") ∷ [];
   ending = ended;
+  choices = [];
+  turns = 0;
 }
-unfolding run answer turns_within
+unfolding answer turns_within
 passes_over_a_clause = refl
 
 --     try:
@@ -332,12 +368,14 @@ goes_on_in_the_else_module = record {
   names = codes "x" ∷ [];
 }
 
-goes_on_in_the_else : run goes_on_in_the_else_module [] 0 ([]) ([]) ≡ record {
+goes_on_in_the_else : answered goes_on_in_the_else_module [] 0 ([]) ([]) ≡ record {
   events = event.held 0 (whole (pos 3)) ∷ [];
   heap = [];
   ending = ended;
+  choices = [];
+  turns = 0;
 }
-unfolding run answer turns_within
+unfolding answer turns_within
 goes_on_in_the_else = refl
 
 --     try:
@@ -350,12 +388,14 @@ raises_again_where_none_matches_module = record {
   names = codes "KeyError" ∷ codes "ValueError" ∷ [];
 }
 
-raises_again_where_none_matches : run raises_again_where_none_matches_module [] 1 (0 ∷ 0 ∷ 0 ∷ 0 ∷ 0 ∷ 0 ∷ []) ([]) ≡ record {
+raises_again_where_none_matches : answered raises_again_where_none_matches_module [] 1 (0 ∷ 0 ∷ 0 ∷ 0 ∷ 0 ∷ 0 ∷ []) ([]) ≡ record {
   events = [];
   heap = native (codes "KeyError") ∷ error (codes "KeyError") ∷ native (codes "ValueError") ∷ [];
   ending = raised_out (ref 1);
+  choices = [];
+  turns = 0;
 }
-unfolding run answer turns_within
+unfolding answer turns_within
 raises_again_where_none_matches = refl
 
 -- the step at the end of a `try` may raise as well
@@ -369,12 +409,14 @@ raises_another_where_none_matches_module = record {
   names = codes "KeyError" ∷ codes "ValueError" ∷ [];
 }
 
-raises_another_where_none_matches : run raises_another_where_none_matches_module [] 1 (0 ∷ 0 ∷ 0 ∷ 0 ∷ 0 ∷ 63 ∷ []) ([]) ≡ record {
+raises_another_where_none_matches : answered raises_another_where_none_matches_module [] 1 (0 ∷ 0 ∷ 0 ∷ 0 ∷ 0 ∷ 63 ∷ []) ([]) ≡ record {
   events = [];
   heap = native (codes "KeyError") ∷ error (codes "KeyError") ∷ native (codes "ValueError") ∷ error (codes "BaseException") ∷ [];
   ending = raised_out (ref 3);
+  choices = [];
+  turns = 0;
 }
-unfolding run answer turns_within
+unfolding answer turns_within
 raises_another_where_none_matches = refl
 
 -- a bare clause takes no choice; the exception is under way in what it calls
@@ -390,12 +432,14 @@ raises_the_exception_under_way_module = record {
   names = codes "f" ∷ codes "KeyError" ∷ [];
 }
 
-raises_the_exception_under_way : run raises_the_exception_under_way_module [] 2 (0 ∷ 0 ∷ 0 ∷ 0 ∷ 0 ∷ 0 ∷ []) ([]) ≡ record {
+raises_the_exception_under_way : answered raises_the_exception_under_way_module [] 2 (0 ∷ 0 ∷ 0 ∷ 0 ∷ 0 ∷ 0 ∷ []) ([]) ≡ record {
   events = [];
   heap = object.function 0 ∷ native (codes "KeyError") ∷ error (codes "KeyError") ∷ [];
   ending = raised_out (ref 2);
+  choices = [];
+  turns = 0;
 }
-unfolding run answer turns_within
+unfolding answer turns_within
 raises_the_exception_under_way = refl
 
 --     try:
@@ -409,12 +453,14 @@ forgets_the_exception_after_its_clause_module = record {
   names = codes "KeyError" ∷ [];
 }
 
-forgets_the_exception_after_its_clause : run forgets_the_exception_after_its_clause_module [] 1 (0 ∷ 0 ∷ 0 ∷ 0 ∷ []) ([]) ≡ record {
+forgets_the_exception_after_its_clause : answered forgets_the_exception_after_its_clause_module [] 1 (0 ∷ 0 ∷ 0 ∷ 0 ∷ []) ([]) ≡ record {
   events = [];
   heap = native (codes "KeyError") ∷ error (codes "KeyError") ∷ error (codes "RuntimeError") ∷ [];
   ending = raised_out (ref 2);
+  choices = [];
+  turns = 0;
 }
-unfolding run answer turns_within
+unfolding answer turns_within
 forgets_the_exception_after_its_clause = refl
 
 --     for x in [1, 2]:
@@ -430,12 +476,14 @@ leaves_a_try_by_break_module = record {
   names = codes "x" ∷ codes "ValueError" ∷ codes "y" ∷ [];
 }
 
-leaves_a_try_by_break : run leaves_a_try_by_break_module [] 1 (0 ∷ 0 ∷ 0 ∷ []) ([]) ≡ record {
+leaves_a_try_by_break : answered leaves_a_try_by_break_module [] 1 (0 ∷ 0 ∷ 0 ∷ []) ([]) ≡ record {
   events = event.held 0 (whole (pos 1)) ∷ event.held 2 (whole (pos 1)) ∷ [];
   heap = object.list 3 ((whole (pos 1)) ∷ (whole (pos 2)) ∷ []) ∷ [];
   ending = ended;
+  choices = [];
+  turns = 0;
 }
-unfolding run answer turns_within
+unfolding answer turns_within
 leaves_a_try_by_break = refl
 
 -- `e` has no value at the end
@@ -451,12 +499,14 @@ unbinds_a_name_where_its_clause_breaks_module = record {
   names = codes "KeyError" ∷ codes "e" ∷ codes "x" ∷ [];
 }
 
-unbinds_a_name_where_its_clause_breaks : run unbinds_a_name_where_its_clause_breaks_module [] 2 (0 ∷ 0 ∷ 0 ∷ 0 ∷ 0 ∷ []) ([]) ≡ record {
+unbinds_a_name_where_its_clause_breaks : answered unbinds_a_name_where_its_clause_breaks_module [] 2 (0 ∷ 0 ∷ 0 ∷ 0 ∷ 0 ∷ []) ([]) ≡ record {
   events = event.held 2 (whole (pos 1)) ∷ [];
   heap = native (codes "KeyError") ∷ error (codes "KeyError") ∷ native (codes "KeyError") ∷ [];
   ending = ended;
+  choices = [];
+  turns = 0;
 }
-unfolding run answer turns_within
+unfolding answer turns_within
 unbinds_a_name_where_its_clause_breaks = refl
 
 -- where some part may match, the tuple matches by choice
@@ -470,12 +520,14 @@ matches_a_tuple_module = record {
   names = codes "KeyError" ∷ codes "ValueError" ∷ codes "x" ∷ [];
 }
 
-matches_a_tuple : run matches_a_tuple_module [] 1 (0 ∷ 0 ∷ 0 ∷ 0 ∷ 0 ∷ 0 ∷ 2 ∷ []) ([]) ≡ record {
+matches_a_tuple : answered matches_a_tuple_module [] 1 (0 ∷ 0 ∷ 0 ∷ 0 ∷ 0 ∷ 0 ∷ 2 ∷ []) ([]) ≡ record {
   events = event.held 2 (whole (pos 1)) ∷ [];
   heap = native (codes "KeyError") ∷ error (codes "KeyError") ∷ native (codes "ValueError") ∷ native (codes "KeyError") ∷ object.tuple 3 object.places ((ref 2) ∷ (ref 3) ∷ []) ∷ [];
   ending = ended;
+  choices = [];
+  turns = 0;
 }
-unfolding run answer turns_within
+unfolding answer turns_within
 matches_a_tuple = refl
 
 --     try:
@@ -488,12 +540,14 @@ passes_over_a_tuple_module = record {
   names = codes "KeyError" ∷ codes "ValueError" ∷ codes "x" ∷ [];
 }
 
-passes_over_a_tuple : run passes_over_a_tuple_module [] 1 (0 ∷ 0 ∷ 0 ∷ 0 ∷ 0 ∷ 0 ∷ 1 ∷ 0 ∷ []) ([]) ≡ record {
+passes_over_a_tuple : answered passes_over_a_tuple_module [] 1 (0 ∷ 0 ∷ 0 ∷ 0 ∷ 0 ∷ 0 ∷ 1 ∷ 0 ∷ []) ([]) ≡ record {
   events = [];
   heap = native (codes "KeyError") ∷ error (codes "KeyError") ∷ native (codes "ValueError") ∷ native (codes "KeyError") ∷ object.tuple 3 object.places ((ref 2) ∷ (ref 3) ∷ []) ∷ [];
   ending = raised_out (ref 1);
+  choices = [];
+  turns = 0;
 }
-unfolding run answer turns_within
+unfolding answer turns_within
 passes_over_a_tuple = refl
 
 --     try:
@@ -506,12 +560,14 @@ never_matches_object_module = record {
   names = codes "KeyError" ∷ codes "object" ∷ codes "x" ∷ [];
 }
 
-never_matches_object : run never_matches_object_module [] 1 (0 ∷ 0 ∷ 0 ∷ 0 ∷ 0 ∷ 0 ∷ []) ([]) ≡ record {
+never_matches_object : answered never_matches_object_module [] 1 (0 ∷ 0 ∷ 0 ∷ 0 ∷ 0 ∷ 0 ∷ []) ([]) ≡ record {
   events = [];
   heap = native (codes "KeyError") ∷ error (codes "KeyError") ∷ native (codes "object") ∷ [];
   ending = raised_out (ref 1);
+  choices = [];
+  turns = 0;
 }
-unfolding run answer turns_within
+unfolding answer turns_within
 never_matches_object = refl
 
 --     if 0:
@@ -523,12 +579,14 @@ reads_a_global_without_value_module = record {
   names = codes "x" ∷ codes "y" ∷ [];
 }
 
-reads_a_global_without_value : run reads_a_global_without_value_module [] 0 (0 ∷ []) ([]) ≡ record {
+reads_a_global_without_value : answered reads_a_global_without_value_module [] 0 (0 ∷ []) ([]) ≡ record {
   events = [];
   heap = error (codes "NameError") ∷ [];
   ending = raised_out (ref 0);
+  choices = [];
+  turns = 0;
 }
-unfolding run answer turns_within
+unfolding answer turns_within
 reads_a_global_without_value = refl
 
 --     x = __name__
@@ -538,10 +596,12 @@ reads_a_builtin_text_module = record {
   names = codes "x" ∷ codes "__name__" ∷ [];
 }
 
-reads_a_builtin_text : run reads_a_builtin_text_module [] 0 (0 ∷ 1 ∷ []) ([]) ≡ record {
+reads_a_builtin_text : answered reads_a_builtin_text_module [] 0 (0 ∷ 1 ∷ []) ([]) ≡ record {
   events = event.held 0 (text false) ∷ [];
   heap = [];
   ending = ended;
+  choices = [];
+  turns = 0;
 }
-unfolding run answer turns_within
+unfolding answer turns_within
 reads_a_builtin_text = refl

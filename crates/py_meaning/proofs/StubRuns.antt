@@ -11,8 +11,8 @@ use Rattle.py_meaning.specs.Values.{none, truth, whole, float, text, ref}
 use Rattle.py_meaning.specs.Objects as object
 use Rattle.py_meaning.specs.Events as event
 use Rattle.py_meaning.specs.Actions.{calls_function, calls_class}
-use Rattle.py_meaning.specs.Runs.{turns_within, answer, ended, raised_out, ran_out_of_turns, run}
-use Rattle.py_meaning.proofs.Samples.{param}
+use Rattle.py_meaning.specs.Runs.{turns_within, answer, ended, raised_out, ran_out_of_turns}
+use Rattle.py_meaning.proofs.Samples.{answered, param}
 use Rattle.builtin_stubs.specs.declared.basic.Basic.TheVariants as kind
 use Rattle.py_meaning.proofs.Samples.{native, method, error, anything}
 
@@ -48,12 +48,14 @@ reads_a_name_of_a_stub_module = record {
   names = codes "money" ∷ codes "x" ∷ codes "rate" ∷ [];
 }
 
-reads_a_name_of_a_stub : run reads_a_name_of_a_stub_module ((codes "money", money) ∷ []) 0 (0 ∷ 0 ∷ 0 ∷ 4 ∷ []) ([]) ≡ record {
+reads_a_name_of_a_stub : answered reads_a_name_of_a_stub_module ((codes "money", money) ∷ []) 0 (0 ∷ 0 ∷ 0 ∷ 4 ∷ []) ([]) ≡ record {
   events = event.held 1 (whole (pos 4)) ∷ [];
   heap = object.imported (codes "money") ∷ [];
   ending = ended;
+  choices = [];
+  turns = 0;
 }
-unfolding run answer turns_within
+unfolding answer turns_within
 reads_a_name_of_a_stub = refl
 
 --     import money
@@ -64,12 +66,14 @@ reads_what_a_stub_lacks_module = record {
   names = codes "money" ∷ codes "x" ∷ codes "nope" ∷ [];
 }
 
-reads_what_a_stub_lacks : run reads_what_a_stub_lacks_module ((codes "money", money) ∷ []) 0 (0 ∷ 0 ∷ 0 ∷ []) ([]) ≡ record {
+reads_what_a_stub_lacks : answered reads_what_a_stub_lacks_module ((codes "money", money) ∷ []) 0 (0 ∷ 0 ∷ 0 ∷ []) ([]) ≡ record {
   events = event.fault 2 event.attribute_error event.on_another (Some 2) ∷ [];
   heap = object.imported (codes "money") ∷ error (codes "AttributeError") ∷ [];
   ending = raised_out (ref 1);
+  choices = [];
+  turns = 0;
 }
-unfolding run answer turns_within
+unfolding answer turns_within
 reads_what_a_stub_lacks = refl
 
 --     import os
@@ -80,12 +84,14 @@ imports_what_has_no_stub_module = record {
   names = codes "os" ∷ codes "x" ∷ codes "getcwd" ∷ [];
 }
 
-imports_what_has_no_stub : run imports_what_has_no_stub_module ((codes "money", money) ∷ []) 1 (0 ∷ 0 ∷ 0 ∷ 0 ∷ []) ([]) ≡ record {
+imports_what_has_no_stub : answered imports_what_has_no_stub_module ((codes "money", money) ∷ []) 1 (0 ∷ 0 ∷ 0 ∷ 0 ∷ []) ([]) ≡ record {
   events = event.held 1 (ref 2) ∷ [];
   heap = anything ∷ anything ∷ anything ∷ [];
   ending = ended;
+  choices = [];
+  turns = 0;
 }
-unfolding run answer turns_within
+unfolding answer turns_within
 imports_what_has_no_stub = refl
 
 --     import a.b as c
@@ -97,12 +103,14 @@ imports_under_another_name_module = record {
   names = codes "a" ∷ codes "b" ∷ codes "c" ∷ codes "money" ∷ codes "m" ∷ codes "x" ∷ codes "rate" ∷ [];
 }
 
-imports_under_another_name : run imports_under_another_name_module ((codes "money", money) ∷ (codes "a.b", money) ∷ []) 0 (0 ∷ 0 ∷ 0 ∷ 0 ∷ 9 ∷ []) ([]) ≡ record {
+imports_under_another_name : answered imports_under_another_name_module ((codes "money", money) ∷ (codes "a.b", money) ∷ []) 0 (0 ∷ 0 ∷ 0 ∷ 0 ∷ 9 ∷ []) ([]) ≡ record {
   events = event.held 5 (whole (pos 9)) ∷ [];
   heap = object.imported (codes "a.b") ∷ object.imported (codes "money") ∷ [];
   ending = ended;
+  choices = [];
+  turns = 0;
 }
-unfolding run answer turns_within
+unfolding answer turns_within
 imports_under_another_name = refl
 
 --     from money import Price, total, nope
@@ -112,12 +120,14 @@ takes_from_a_stub_module = record {
   names = codes "money" ∷ codes "Price" ∷ codes "total" ∷ codes "nope" ∷ [];
 }
 
-takes_from_a_stub : run takes_from_a_stub_module ((codes "money", money) ∷ []) 0 (0 ∷ 0 ∷ 0 ∷ []) ([]) ≡ record {
+takes_from_a_stub : answered takes_from_a_stub_module ((codes "money", money) ∷ []) 0 (0 ∷ 0 ∷ 0 ∷ []) ([]) ≡ record {
   events = [];
   heap = object.foreign (object.stub_class (codes "money") (codes "Price")) ∷ object.foreign (object.stub_fun (codes "money") (codes "total")) ∷ anything ∷ [];
   ending = ended;
+  choices = [];
+  turns = 0;
 }
-unfolding run answer turns_within
+unfolding answer turns_within
 takes_from_a_stub = refl
 
 --     from money import Price
@@ -129,12 +139,14 @@ makes_a_stub_instance_module = record {
   names = codes "money" ∷ codes "Price" ∷ codes "p" ∷ codes "code" ∷ codes "u" ∷ codes "units" ∷ [];
 }
 
-makes_a_stub_instance : run makes_a_stub_instance_module ((codes "money", money) ∷ []) 1 (0 ∷ 0 ∷ 0 ∷ 0 ∷ 0 ∷ 7 ∷ []) ([]) ≡ record {
+makes_a_stub_instance : answered makes_a_stub_instance_module ((codes "money", money) ∷ []) 1 (0 ∷ 0 ∷ 0 ∷ 0 ∷ 0 ∷ 7 ∷ []) ([]) ≡ record {
   events = event.held 2 (ref 1) ∷ event.held 4 (whole (pos 7)) ∷ [];
   heap = object.foreign (object.stub_class (codes "money") (codes "Price")) ∷ object.outside (term.class (codes "money.Price")) ∷ [];
   ending = ended;
+  choices = [];
+  turns = 0;
 }
-unfolding run answer turns_within
+unfolding answer turns_within
 makes_a_stub_instance = refl
 
 --     from money import Price
@@ -145,12 +157,14 @@ makes_a_stub_instance_of_too_little_module = record {
   names = codes "money" ∷ codes "Price" ∷ codes "p" ∷ [];
 }
 
-makes_a_stub_instance_of_too_little : run makes_a_stub_instance_of_too_little_module ((codes "money", money) ∷ []) 1 (0 ∷ 0 ∷ 0 ∷ []) ([]) ≡ record {
+makes_a_stub_instance_of_too_little : answered makes_a_stub_instance_of_too_little_module ((codes "money", money) ∷ []) 1 (0 ∷ 0 ∷ 0 ∷ []) ([]) ≡ record {
   events = event.fault 2 event.missing_parameter event.on_another None ∷ [];
   heap = object.foreign (object.stub_class (codes "money") (codes "Price")) ∷ error (codes "TypeError") ∷ [];
   ending = raised_out (ref 1);
+  choices = [];
+  turns = 0;
 }
-unfolding run answer turns_within
+unfolding answer turns_within
 makes_a_stub_instance_of_too_little = refl
 
 -- the result is a union, whose member a choice picks: of int and str the second
@@ -164,12 +178,14 @@ calls_a_stub_method_module = record {
   names = codes "money" ∷ codes "Price" ∷ codes "f" ∷ codes "p" ∷ codes "twice" ∷ codes "x" ∷ [];
 }
 
-calls_a_stub_method : run calls_a_stub_method_module ((codes "money", money) ∷ []) 3 (0 ∷ 0 ∷ 0 ∷ 0 ∷ 0 ∷ 0 ∷ 0 ∷ 0 ∷ 1 ∷ 5 ∷ []) ([]) ≡ record {
+calls_a_stub_method : answered calls_a_stub_method_module ((codes "money", money) ∷ []) 3 (0 ∷ 0 ∷ 0 ∷ 0 ∷ 0 ∷ 0 ∷ 0 ∷ 0 ∷ 1 ∷ 5 ∷ []) ([]) ≡ record {
   events = event.returned 0 (text false) ∷ event.held 5 (text false) ∷ [];
   heap = object.foreign (object.stub_class (codes "money") (codes "Price")) ∷ object.function 0 ∷ object.outside (term.class (codes "money.Price")) ∷ object.bound_foreign (ref 2) (object.stub_method (codes "money") (codes "Price") (codes "twice")) ∷ [];
   ending = ended;
+  choices = [];
+  turns = 0;
 }
-unfolding run answer turns_within
+unfolding answer turns_within
 calls_a_stub_method = refl
 
 -- the stub's own class stands under its whole name
@@ -181,12 +197,14 @@ calls_a_stub_function_module = record {
   names = codes "money" ∷ codes "total" ∷ codes "x" ∷ [];
 }
 
-calls_a_stub_function : run calls_a_stub_function_module ((codes "money", money) ∷ []) 1 (0 ∷ 0 ∷ 0 ∷ []) ([]) ≡ record {
+calls_a_stub_function : answered calls_a_stub_function_module ((codes "money", money) ∷ []) 1 (0 ∷ 0 ∷ 0 ∷ []) ([]) ≡ record {
   events = event.held 2 (ref 2) ∷ [];
   heap = object.foreign (object.stub_fun (codes "money") (codes "total")) ∷ object.list 2 ([]) ∷ object.outside (term.class (codes "money.Price")) ∷ [];
   ending = ended;
+  choices = [];
+  turns = 0;
 }
-unfolding run answer turns_within
+unfolding answer turns_within
 calls_a_stub_function = refl
 
 --     from money import total
@@ -197,12 +215,14 @@ lacks_an_attribute_of_a_stub_instance_module = record {
   names = codes "money" ∷ codes "total" ∷ codes "x" ∷ codes "z" ∷ [];
 }
 
-lacks_an_attribute_of_a_stub_instance : run lacks_an_attribute_of_a_stub_instance_module ((codes "money", money) ∷ []) 1 (0 ∷ 0 ∷ 0 ∷ 0 ∷ []) ([]) ≡ record {
+lacks_an_attribute_of_a_stub_instance : answered lacks_an_attribute_of_a_stub_instance_module ((codes "money", money) ∷ []) 1 (0 ∷ 0 ∷ 0 ∷ 0 ∷ []) ([]) ≡ record {
   events = event.fault 2 event.attribute_error event.on_another (Some 3) ∷ [];
   heap = object.foreign (object.stub_fun (codes "money") (codes "total")) ∷ object.list 2 ([]) ∷ object.outside (term.class (codes "money.Price")) ∷ error (codes "AttributeError") ∷ [];
   ending = raised_out (ref 3);
+  choices = [];
+  turns = 0;
 }
-unfolding run answer turns_within
+unfolding answer turns_within
 lacks_an_attribute_of_a_stub_instance = refl
 
 -- each element is fresh
@@ -215,12 +235,14 @@ iterates_a_list_from_outside_module = record {
   names = codes "money" ∷ codes "p" ∷ codes "prices" ∷ [];
 }
 
-iterates_a_list_from_outside : run iterates_a_list_from_outside_module ((codes "money", money) ∷ []) 1 (0 ∷ 0 ∷ 0 ∷ 0 ∷ 0 ∷ 0 ∷ 1 ∷ []) ([]) ≡ record {
+iterates_a_list_from_outside : answered iterates_a_list_from_outside_module ((codes "money", money) ∷ []) 1 (0 ∷ 0 ∷ 0 ∷ 0 ∷ 0 ∷ 0 ∷ 1 ∷ []) ([]) ≡ record {
   events = event.held 1 (ref 2) ∷ [];
   heap = object.imported (codes "money") ∷ object.outside (term.list (term.class (codes "money.Price"))) ∷ object.outside (term.class (codes "money.Price")) ∷ [];
   ending = ended;
+  choices = [];
+  turns = 0;
 }
-unfolding run answer turns_within
+unfolding answer turns_within
 iterates_a_list_from_outside = refl
 
 -- the effect is forgotten
@@ -234,12 +256,14 @@ appends_to_a_list_from_outside_module = record {
   names = codes "money" ∷ codes "ps" ∷ codes "prices" ∷ codes "append" ∷ codes "q" ∷ [];
 }
 
-appends_to_a_list_from_outside : run appends_to_a_list_from_outside_module ((codes "money", money) ∷ []) 1 (0 ∷ 0 ∷ 0 ∷ 0 ∷ 0 ∷ 0 ∷ 0 ∷ 0 ∷ []) ([]) ≡ record {
+appends_to_a_list_from_outside : answered appends_to_a_list_from_outside_module ((codes "money", money) ∷ []) 1 (0 ∷ 0 ∷ 0 ∷ 0 ∷ 0 ∷ 0 ∷ 0 ∷ 0 ∷ []) ([]) ≡ record {
   events = event.held 1 (ref 1) ∷ event.held 4 (ref 3) ∷ [];
   heap = object.imported (codes "money") ∷ object.outside (term.list (term.class (codes "money.Price"))) ∷ method kind.List (codes "append") (ref 1) ∷ object.outside (term.class (codes "money.Price")) ∷ [];
   ending = ended;
+  choices = [];
+  turns = 0;
 }
-unfolding run answer turns_within
+unfolding answer turns_within
 appends_to_a_list_from_outside = refl
 
 -- each target takes one of the declared places
@@ -251,12 +275,14 @@ unpacks_a_tuple_from_outside_module = record {
   names = codes "money" ∷ codes "a" ∷ codes "b" ∷ codes "pair" ∷ [];
 }
 
-unpacks_a_tuple_from_outside : run unpacks_a_tuple_from_outside_module ((codes "money", money) ∷ []) 0 (0 ∷ 0 ∷ 0 ∷ 0 ∷ 0 ∷ 1 ∷ 2 ∷ 0 ∷ 0 ∷ 0 ∷ 8 ∷ []) ([]) ≡ record {
+unpacks_a_tuple_from_outside : answered unpacks_a_tuple_from_outside_module ((codes "money", money) ∷ []) 0 (0 ∷ 0 ∷ 0 ∷ 0 ∷ 0 ∷ 1 ∷ 2 ∷ 0 ∷ 0 ∷ 0 ∷ 8 ∷ []) ([]) ≡ record {
   events = event.held 1 (whole (pos 8)) ∷ event.held 2 (text true) ∷ [];
   heap = object.imported (codes "money") ∷ object.outside (term.tuple (term.term term.int (term.term term.str term.no_terms))) ∷ [];
   ending = ended;
+  choices = [];
+  turns = 0;
 }
-unfolding run answer turns_within
+unfolding answer turns_within
 unpacks_a_tuple_from_outside = refl
 
 --     import money
@@ -267,12 +293,14 @@ calls_what_a_stub_declares_callable_module = record {
   names = codes "money" ∷ codes "x" ∷ codes "get" ∷ [];
 }
 
-calls_what_a_stub_declares_callable : run calls_what_a_stub_declares_callable_module ((codes "money", money) ∷ []) 1 (0 ∷ 0 ∷ 0 ∷ 0 ∷ []) ([]) ≡ record {
+calls_what_a_stub_declares_callable : answered calls_what_a_stub_declares_callable_module ((codes "money", money) ∷ []) 1 (0 ∷ 0 ∷ 0 ∷ 0 ∷ []) ([]) ≡ record {
   events = event.held 1 float ∷ [];
   heap = object.imported (codes "money") ∷ object.outside (term.callable term.float) ∷ [];
   ending = ended;
+  choices = [];
+  turns = 0;
 }
-unfolding run answer turns_within
+unfolding answer turns_within
 calls_what_a_stub_declares_callable = refl
 
 --     import money
@@ -284,12 +312,14 @@ reads_a_class_of_a_stub_module = record {
   names = codes "money" ∷ codes "k" ∷ codes "kind" ∷ codes "x" ∷ [];
 }
 
-reads_a_class_of_a_stub : run reads_a_class_of_a_stub_module ((codes "money", money) ∷ []) 1 (0 ∷ 0 ∷ 0 ∷ 0 ∷ 0 ∷ []) ([]) ≡ record {
+reads_a_class_of_a_stub : answered reads_a_class_of_a_stub_module ((codes "money", money) ∷ []) 1 (0 ∷ 0 ∷ 0 ∷ 0 ∷ 0 ∷ []) ([]) ≡ record {
   events = event.held 1 (ref 1) ∷ event.held 3 (ref 2) ∷ [];
   heap = object.imported (codes "money") ∷ object.foreign (object.stub_class (codes "money") (codes "Price")) ∷ object.outside (term.class (codes "money.Price")) ∷ [];
   ending = ended;
+  choices = [];
+  turns = 0;
 }
-unfolding run answer turns_within
+unfolding answer turns_within
 reads_a_class_of_a_stub = refl
 
 --     from money import Wrong
@@ -303,12 +333,14 @@ catches_an_exception_of_a_stub_module = record {
   names = codes "money" ∷ codes "Wrong" ∷ codes "LookupError" ∷ codes "e" ∷ codes "x" ∷ codes "args" ∷ [];
 }
 
-catches_an_exception_of_a_stub : run catches_an_exception_of_a_stub_module ((codes "money", money) ∷ []) 1 (0 ∷ 0 ∷ 0 ∷ 0 ∷ 0 ∷ 0 ∷ 0 ∷ 0 ∷ []) ([]) ≡ record {
+catches_an_exception_of_a_stub : answered catches_an_exception_of_a_stub_module ((codes "money", money) ∷ []) 1 (0 ∷ 0 ∷ 0 ∷ 0 ∷ 0 ∷ 0 ∷ 0 ∷ 0 ∷ []) ([]) ≡ record {
   events = event.held 4 (ref 3) ∷ [];
   heap = object.foreign (object.stub_class (codes "money") (codes "Wrong")) ∷ object.outside (term.class (codes "money.Wrong")) ∷ native (codes "LookupError") ∷ object.outside (term.tuple_of term.any) ∷ [];
   ending = ended;
+  choices = [];
+  turns = 0;
 }
-unfolding run answer turns_within
+unfolding answer turns_within
 catches_an_exception_of_a_stub = refl
 
 --     from money import total
@@ -320,12 +352,14 @@ adds_a_stub_instance_module = record {
   names = codes "money" ∷ codes "total" ∷ codes "x" ∷ codes "y" ∷ [];
 }
 
-adds_a_stub_instance : run adds_a_stub_instance_module ((codes "money", money) ∷ []) 2 (0 ∷ 0 ∷ 0 ∷ 0 ∷ 0 ∷ 0 ∷ 0 ∷ 1 ∷ []) ([]) ≡ record {
+adds_a_stub_instance : answered adds_a_stub_instance_module ((codes "money", money) ∷ []) 2 (0 ∷ 0 ∷ 0 ∷ 0 ∷ 0 ∷ 0 ∷ 0 ∷ 1 ∷ []) ([]) ≡ record {
   events = event.held 2 (ref 3) ∷ event.held 3 (truth false) ∷ [];
   heap = object.foreign (object.stub_fun (codes "money") (codes "total")) ∷ object.list 2 ([]) ∷ object.outside (term.class (codes "money.Price")) ∷ anything ∷ object.list 8 ([]) ∷ object.outside (term.class (codes "money.Price")) ∷ [];
   ending = ended;
+  choices = [];
+  turns = 0;
 }
-unfolding run answer turns_within
+unfolding answer turns_within
 adds_a_stub_instance = refl
 
 -- a call from outside that raises ends that call alone; a parameter with a default may be left out
@@ -339,12 +373,14 @@ returns_to_the_outside_module = record {
   names = codes "f" ∷ codes "a" ∷ codes "ValueError" ∷ codes "g" ∷ codes "b" ∷ [];
 }
 
-returns_to_the_outside : run returns_to_the_outside_module [] 4 (0 ∷ 0 ∷ 0 ∷ 0 ∷ 0 ∷ 0 ∷ []) (calls_function 0 [] ∷ calls_function 1 (4 ∷ []) ∷ calls_function 1 [] ∷ []) ≡ record {
+returns_to_the_outside : answered returns_to_the_outside_module [] 4 (0 ∷ 0 ∷ 0 ∷ 0 ∷ 0 ∷ 0 ∷ []) (calls_function 0 [] ∷ calls_function 1 (4 ∷ []) ∷ calls_function 1 [] ∷ []) ≡ record {
   events = event.returned 1 (whole (pos 2)) ∷ event.returned 1 (ref 7) ∷ [];
   heap = object.function 0 ∷ object.function 1 ∷ anything ∷ native (codes "ValueError") ∷ error (codes "ValueError") ∷ anything ∷ anything ∷ anything ∷ [];
   ending = ended;
+  choices = 0 ∷ [];
+  turns = 0;
 }
-unfolding run answer turns_within
+unfolding answer turns_within
 returns_to_the_outside = refl
 
 -- without an instance the call is passed over
@@ -359,12 +395,14 @@ calls_a_method_from_outside_module = record {
   names = codes "C" ∷ codes "__init__" ∷ codes "self" ∷ codes "v" ∷ codes "get" ∷ [];
 }
 
-calls_a_method_from_outside : run calls_a_method_from_outside_module [] 2 (0 ∷ 0 ∷ 0 ∷ 0 ∷ 0 ∷ []) (calls_function 1 [] ∷ calls_class 0 [] ∷ calls_function 1 [] ∷ []) ≡ record {
+calls_a_method_from_outside : answered calls_a_method_from_outside_module [] 2 (0 ∷ 0 ∷ 0 ∷ 0 ∷ 0 ∷ []) (calls_function 1 [] ∷ calls_class 0 [] ∷ calls_function 1 [] ∷ []) ≡ record {
   events = event.returned 0 none ∷ event.returned 1 (ref 4) ∷ [];
   heap = object.class 0 ((1, (ref 1)) ∷ (4, (ref 2)) ∷ []) ∷ object.function 0 ∷ object.function 1 ∷ object.instance 0 ((3, (ref 4)) ∷ []) ∷ anything ∷ [];
   ending = ended;
+  choices = [];
+  turns = 0;
 }
-unfolding run answer turns_within
+unfolding answer turns_within
 calls_a_method_from_outside = refl
 
 -- any instance by choice
@@ -379,12 +417,14 @@ picks_an_instance_module = record {
   names = codes "C" ∷ codes "get" ∷ codes "self" ∷ codes "a" ∷ codes "b" ∷ [];
 }
 
-picks_an_instance : run picks_an_instance_module [] 3 (0 ∷ 0 ∷ 0 ∷ 0 ∷ 1 ∷ 0 ∷ []) (calls_function 0 [] ∷ []) ≡ record {
+picks_an_instance : answered picks_an_instance_module [] 3 (0 ∷ 0 ∷ 0 ∷ 0 ∷ 1 ∷ 0 ∷ []) (calls_function 0 [] ∷ []) ≡ record {
   events = event.held 3 (ref 2) ∷ event.held 4 (ref 3) ∷ event.returned 0 (ref 3) ∷ [];
   heap = object.class 0 ((1, (ref 1)) ∷ []) ∷ object.function 0 ∷ object.instance 0 ([]) ∷ object.instance 0 ([]) ∷ [];
   ending = ended;
+  choices = [];
+  turns = 0;
 }
-unfolding run answer turns_within
+unfolding answer turns_within
 picks_an_instance = refl
 
 --     def f():
@@ -396,12 +436,14 @@ makes_no_calls_after_an_exception_module = record {
   names = codes "f" ∷ [];
 }
 
-makes_no_calls_after_an_exception : run makes_no_calls_after_an_exception_module [] 3 (0 ∷ 0 ∷ 0 ∷ 0 ∷ 0 ∷ 0 ∷ 0 ∷ 0 ∷ 0 ∷ []) (calls_function 0 [] ∷ []) ≡ record {
+makes_no_calls_after_an_exception : answered makes_no_calls_after_an_exception_module [] 3 (0 ∷ 0 ∷ 0 ∷ 0 ∷ 0 ∷ 0 ∷ 0 ∷ 0 ∷ 0 ∷ []) (calls_function 0 [] ∷ []) ≡ record {
   events = [];
   heap = object.function 0 ∷ error (codes "TypeError") ∷ [];
   ending = raised_out (ref 1);
+  choices = 0 ∷ 0 ∷ 0 ∷ 0 ∷ 0 ∷ 0 ∷ [];
+  turns = 3;
 }
-unfolding run answer turns_within
+unfolding answer turns_within
 makes_no_calls_after_an_exception = refl
 
 --     def f():
@@ -412,10 +454,87 @@ runs_out_of_turns_in_a_call_from_outside_module = record {
   names = codes "f" ∷ [];
 }
 
-runs_out_of_turns_in_a_call_from_outside : run runs_out_of_turns_in_a_call_from_outside_module [] 1 ([]) (calls_function 0 [] ∷ calls_function 0 [] ∷ []) ≡ record {
+runs_out_of_turns_in_a_call_from_outside : answered runs_out_of_turns_in_a_call_from_outside_module [] 1 ([]) (calls_function 0 [] ∷ calls_function 0 [] ∷ []) ≡ record {
   events = event.returned 0 (whole (pos 1)) ∷ [];
   heap = object.function 0 ∷ [];
   ending = ran_out_of_turns;
+  choices = [];
+  turns = 0;
 }
-unfolding run answer turns_within
+unfolding answer turns_within
 runs_out_of_turns_in_a_call_from_outside = refl
+
+-- def dup(a: int, a: int) -> int
+-- def dd(a: int, a: int = ...) -> int
+abbrev twice_named : Stub
+twice_named = record {
+  names = [];
+  funs = record {
+    name = codes "dup";
+    params = record { name = codes "a"; term = term.int; has_default = false } ∷ record { name = codes "a"; term = term.int; has_default = false } ∷ [];
+    answer = term.int;
+  }
+      ∷ record {
+        name = codes "dd";
+        params = record { name = codes "a"; term = term.int; has_default = false } ∷ record { name = codes "a"; term = term.int; has_default = true } ∷ [];
+        answer = term.int;
+      } ∷ [];
+  classes = [];
+}
+
+-- a keyword reaches the first parameter of its name, so the second is missing
+--     from m import dup
+--     x = dup(a=1)
+abbrev a_keyword_reaches_one_parameter_module : Module
+a_keyword_reaches_one_parameter_module = record {
+  body = stmt (statement (tree.from (0 ∷ []) (record { name = 1; alias = None } ∷ [])) 1) (stmt (statement (tree.assign (expr (node (tree.name 2) 2 0) no_exprs) (node (tree.call (node (tree.name 1) 2 1) (arg (Some 3) (node (tree.literal (lit.Int false 1)) 2 2) no_args)) 2 3)) 2) no_stmts);
+  names = codes "m" ∷ codes "dup" ∷ codes "x" ∷ codes "a" ∷ [];
+}
+
+a_keyword_reaches_one_parameter : answered a_keyword_reaches_one_parameter_module ((codes "m", twice_named) ∷ []) 1 (0 ∷ 0 ∷ 0 ∷ []) ([]) ≡ record {
+  events = event.fault 2 event.missing_parameter event.on_another None ∷ [];
+  heap = object.foreign (object.stub_fun (codes "m") (codes "dup")) ∷ error (codes "TypeError") ∷ [];
+  ending = raised_out (ref 1);
+  choices = [];
+  turns = 0;
+}
+unfolding answer turns_within
+a_keyword_reaches_one_parameter = refl
+
+-- the second takes its default
+--     from m import dd
+--     x = dd(a=1)
+abbrev a_second_parameter_takes_its_default_module : Module
+a_second_parameter_takes_its_default_module = record {
+  body = stmt (statement (tree.from (0 ∷ []) (record { name = 1; alias = None } ∷ [])) 1) (stmt (statement (tree.assign (expr (node (tree.name 2) 2 0) no_exprs) (node (tree.call (node (tree.name 1) 2 1) (arg (Some 3) (node (tree.literal (lit.Int false 1)) 2 2) no_args)) 2 3)) 2) no_stmts);
+  names = codes "m" ∷ codes "dd" ∷ codes "x" ∷ codes "a" ∷ [];
+}
+
+a_second_parameter_takes_its_default : answered a_second_parameter_takes_its_default_module ((codes "m", twice_named) ∷ []) 1 (0 ∷ 0 ∷ 0 ∷ 5 ∷ []) ([]) ≡ record {
+  events = event.held 2 (whole (pos 5)) ∷ [];
+  heap = object.foreign (object.stub_fun (codes "m") (codes "dd")) ∷ [];
+  ending = ended;
+  choices = [];
+  turns = 0;
+}
+unfolding answer turns_within
+a_second_parameter_takes_its_default = refl
+
+-- the first of them is given already
+--     from m import dup
+--     x = dup(1, a=2)
+abbrev a_keyword_comes_after_a_position_module : Module
+a_keyword_comes_after_a_position_module = record {
+  body = stmt (statement (tree.from (0 ∷ []) (record { name = 1; alias = None } ∷ [])) 1) (stmt (statement (tree.assign (expr (node (tree.name 2) 2 0) no_exprs) (node (tree.call (node (tree.name 1) 2 1) (arg None (node (tree.literal (lit.Int false 1)) 2 2) (arg (Some 3) (node (tree.literal (lit.Int false 2)) 2 3) no_args))) 2 4)) 2) no_stmts);
+  names = codes "m" ∷ codes "dup" ∷ codes "x" ∷ codes "a" ∷ [];
+}
+
+a_keyword_comes_after_a_position : answered a_keyword_comes_after_a_position_module ((codes "m", twice_named) ∷ []) 1 (0 ∷ 0 ∷ 0 ∷ []) ([]) ≡ record {
+  events = event.fault 2 event.duplicate_keyword event.on_another None ∷ [];
+  heap = object.foreign (object.stub_fun (codes "m") (codes "dup")) ∷ error (codes "TypeError") ∷ [];
+  ending = raised_out (ref 1);
+  choices = [];
+  turns = 0;
+}
+unfolding answer turns_within
+a_keyword_comes_after_a_position = refl

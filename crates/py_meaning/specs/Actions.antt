@@ -4,9 +4,9 @@ use Rattle.std.specs.Prelude.{ℕ, zero, suc, ◌/◌, ◌%◌, Bool, ◌==◌, 
 use Rattle.type_terms.specs.Exceptions.{exception_names}
 use Rattle.type_terms.specs.Terms as term
 use Rattle.py_tree.specs.Tree.{Expr, Stmts}
-use Rattle.py_meaning.specs.Values.{Value, truth, ref, Entries}
+use Rattle.py_meaning.specs.Values.{Value, truth, Entries}
 use Rattle.py_meaning.specs.Objects as object
-use Rattle.py_meaning.specs.Objects.{Object, object_at}
+use Rattle.py_meaning.specs.Objects.{Object, Filling, refilled, object_at}
 use Rattle.py_meaning.specs.Events.{FaultKind, on_another, Event, fault}
 
 -- ---- what a run remembers
@@ -16,13 +16,28 @@ pub record Frame : Type 0 where
   pub function : ℕ
   pub locals : Entries
 
-pub record Memory : Type 0 where
+-- what names stand for, and what is under way
+pub record Scope : Type 0 where
   -- none in the module's own body
   pub frame : Option Frame
   pub globals : Entries
-  pub heap : List Object
   -- the exception of the innermost `except` clause that is being tried or run
   pub handled : Option Value
+
+pub record Memory : Type 0 where
+  pub scope : Scope
+  pub heap : List Object
+
+abbrev pub with_scope : Scope → Memory → Memory
+with_scope c m = record m { scope = c }
+
+-- with one object more
+abbrev pub with_new : Object → Memory → Memory
+with_new o m = record m { heap = m.heap ++ o ∷ [] }
+
+-- with other parts of an object
+abbrev pub with_parts : ℕ → Filling → Memory → Memory
+with_parts place new m = record m { heap = slice_set m.heap place (refilled (object_at m.heap place) new) }
 
 -- ---- what happens in a turn
 
@@ -68,7 +83,11 @@ pub data Action (A : Type 0) : Type 0 where
   counts : (ℕ → Action A) → Action A
   turn : Request → (Outcome → Action A) → Action A
   looks : (Memory → Action A) → Action A
-  becomes : Memory → Action A → Action A
+  -- the scope is another; the heap stays
+  becomes : Scope → Action A → Action A
+  -- a new object, and other parts of one that is there
+  makes : Object → (Value → Action A) → Action A
+  refills : (place : ℕ) → Filling → Action A → Action A
   tells : Event → Action A → Action A
 
 -- goes on in one way where the action gives, and in another where it raises
@@ -79,7 +98,9 @@ attempt (takes k) f g = takes (λ c. attempt (k c) f g)
 attempt (counts k) f g = counts (λ n. attempt (k n) f g)
 attempt (turn q k) f g = turn q (λ o. attempt (k o) f g)
 attempt (looks k) f g = looks (λ m. attempt (k m) f g)
-attempt (becomes m a) f g = becomes m (attempt a f g)
+attempt (becomes c a) f g = becomes c (attempt a f g)
+attempt (makes o k) f g = makes o (λ v. attempt (k v) f g)
+attempt (refills place new a) f g = refills place new (attempt a f g)
 attempt (tells e a) f g = tells e (attempt a f g)
 
 -- one after the other
@@ -89,24 +110,24 @@ bind a f = attempt a f (λ v. raises v)
 abbrev pub then_do : {A B : Type 0} → Action A → Action B → Action B
 then_do a b = bind a (λ x. b)
 
--- a change of memory
-abbrev pub changes : {A : Type 0} → (Memory → Memory) → Action A → Action A
-changes f a = looks (λ m. becomes (f m) a)
+-- a change of the scope
+abbrev pub changes : {A : Type 0} → (Scope → Scope) → Action A → Action A
+changes f a = looks (λ m. becomes (f m.scope) a)
 
 abbrev pub done : Action (Unit {0})
 done = gives tt
 
--- a change of memory at the end, whether the action gives or raises
-abbrev pub afterwards : {A : Type 0} → Action A → (Memory → Memory) → Action A
+-- a change of the scope at the end, whether the action gives or raises
+abbrev pub afterwards : {A : Type 0} → Action A → (Scope → Scope) → Action A
 afterwards a f = attempt a (λ x. changes f (gives x)) (λ v. changes f (raises v))
 
 -- ---- the heap
 
 abbrev pub allocate : Object → Action Value
-allocate o = looks (λ m. becomes (record m { heap = m.heap ++ o ∷ [] }) (gives (ref (length m.heap))))
+allocate o = makes o (λ v. gives v)
 
-abbrev pub replace : ℕ → Object → Action (Unit {0})
-replace place o = changes (λ m. record m { heap = slice_set m.heap place o }) done
+abbrev pub refill : ℕ → Filling → Action (Unit {0})
+refill place new = refills place new done
 
 -- the object that a reference points to
 abbrev pub at_place : {A : Type 0} → ℕ → (Object → Action A) → Action A

@@ -19,7 +19,7 @@ use Rattle.py_meaning.specs.Events.{Holder, on_instance, on_class, on_another, f
 use Rattle.py_meaning.specs.Programs.{Program, text_at, chain, exception_base, binds, or_else}
 use Rattle.py_meaning.specs.StubItems.{StubClass, stub_class_at, stub_at, Item, of_type, a_function, a_class, a_method, item_in, member_of, bases, exceptions_above}
 use Rattle.py_meaning.specs.Fresh.{fresh, value_of_row}
-use Rattle.py_meaning.specs.Actions.{Action, gives, looks, tells, allocate, replace, anything, at_place, raise_builtin, done}
+use Rattle.py_meaning.specs.Actions.{Action, gives, looks, tells, allocate, refill, anything, at_place, raise_builtin, done}
 
 abbrev pub lacks : {A : Type 0} → (line : ℕ) → Holder → (name : ℕ) → Action A
 lacks line holder name = tells (fault line attribute_error holder (Some name)) (raise_builtin (codes "AttributeError"))
@@ -162,8 +162,8 @@ takes_attributes (object.outside (term.class name)) = not (is_instance_name name
 takes_attributes o = is_unfollowed o
 
 abbrev pub store_in_object : (place line name : ℕ) → Value → Object → Action (Unit {0})
-store_in_object place line name v (object.instance c es) = replace place (object.instance c (with_entry es name v))
-store_in_object place line name v (object.class c es) = replace place (object.class c (with_entry es name v))
+store_in_object place line name v (object.instance c es) = refill place (object.of_entries (with_entry es name v))
+store_in_object place line name v (object.class c es) = refill place (object.of_entries (with_entry es name v))
 store_in_object place line name v o = if takes_attributes o then done else lacks line on_another name
 
 abbrev pub store_attribute : (line : ℕ) → (object : Value) → (name : ℕ) → Value → Action (Unit {0})

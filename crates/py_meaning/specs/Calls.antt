@@ -19,9 +19,9 @@ use Rattle.py_meaning.specs.Attributes.{first_binding}
 use Rattle.py_meaning.specs.Expressions.{value_of_flow}
 use Rattle.py_meaning.specs.Targets.{put}
 use Rattle.py_meaning.specs.Statements.{exec_all, run_while, run_for, once_more}
-use Rattle.py_meaning.specs.Actions.{Frame, Memory, Argument, Flow, returns, OutsideCall, calls_function, calls_class, Request, call, while_turn, for_turn, outside_call, Action, gives, looks, tells, bind, then_do, changes, afterwards, allocate, anything, at_place, one_of, may_raise, fails}
+use Rattle.py_meaning.specs.Actions.{Frame, Scope, Argument, Flow, returns, OutsideCall, calls_function, calls_class, Request, call, while_turn, for_turn, outside_call, Action, gives, looks, tells, bind, then_do, changes, allocate, anything, at_place, one_of, may_raise, fails}
 
--- ---- functions of the module
+-- ---- functions of the module: the body runs with locals of its own, and the caller's are back after the turn
 
 abbrev pub call_by_names : List Argument → Call ℕ
 call_by_names as' = record { positional = positional_count as'; keywords = keywords as' }
@@ -46,18 +46,14 @@ abbrev pub parameters_bound : (bound : Value) → List Argument → List Param �
 parameters_bound v as' (q ∷ qs) (s ∷ ss) = (q.name, source_value v as' q s) ∷ parameters_bound v as' qs ss
 parameters_bound v as' _ _ = []
 
-abbrev pub with_frame : Option Frame → Memory → Memory
-with_frame o m = record m { frame = o }
-
--- the body runs with locals of its own, and the caller's are back after it
-abbrev pub in_frame : {A : Type 0} → Frame → Action A → Action A
-in_frame f a = looks (λ m. changes (with_frame (Some f)) (afterwards a (with_frame m.frame)))
+abbrev pub with_frame : Frame → Scope → Scope
+with_frame f c = record c { frame = Some f }
 
 abbrev pub told_return : (function : ℕ) → Flow → Action Value
 told_return f flow = tells (returned f (value_of_flow flow)) (gives (value_of_flow flow))
 
 abbrev pub enter : Program → (function : ℕ) → FunRow → Entries → Action Value
-enter p f row locals = in_frame (record { function = f; locals = locals }) (bind (exec_all p row.body) (told_return f))
+enter p f row locals = changes (with_frame (record { function = f; locals = locals })) (bind (exec_all p row.body) (told_return f))
 
 abbrev pub enter_matched : Program → (function line : ℕ) → FunRow → (bound : Value) → List Argument → Matched → Action Value
 enter_matched p f line row v as' (mismatch kind) = fails line kind

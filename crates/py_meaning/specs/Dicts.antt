@@ -7,10 +7,10 @@ use Rattle.py_meaning.specs.Objects.{Object, object_at}
 use Rattle.py_meaning.specs.Programs.{Program}
 use Rattle.py_meaning.specs.Contents.{pairs, read_pairs}
 use Rattle.py_meaning.specs.Iteration.{iterate, on_element, is_iterable, items_of}
-use Rattle.py_meaning.specs.Actions.{Action, counts, looks, bind, then_do, replace, anything, at_place, raise_builtin, done}
+use Rattle.py_meaning.specs.Actions.{Action, counts, looks, bind, then_do, refill, anything, at_place, raise_builtin, done}
 
 abbrev pub pairs_added : (place : ℕ) → List (Value × Value) → Object → Action (Unit {0})
-pairs_added place qs (object.dict site ps) = replace place (object.dict site (ps ++ qs))
+pairs_added place qs (object.dict site ps) = refill place (object.of_pairs (ps ++ qs))
 pairs_added place qs _ = done
 
 -- at the end; a store into a dict from outside is forgotten

@@ -10,7 +10,7 @@ use Rattle.py_meaning.specs.Programs.{Program, exception_base}
 use Rattle.py_meaning.specs.ClassTests.{class_at}
 use Rattle.py_meaning.specs.Names.{builtin_value}
 use Rattle.py_meaning.specs.Expressions.{call_value, chosen}
-use Rattle.py_meaning.specs.Actions.{Memory, Action, gives, raises, looks, bind, then_do, changes, afterwards, raise_builtin, may_raise}
+use Rattle.py_meaning.specs.Actions.{Scope, Action, gives, raises, looks, bind, then_do, changes, afterwards, raise_builtin, may_raise}
 
 -- of a class its instance, by a call without arguments; anything else is raised as it is
 abbrev pub made_exception : Value → (site line : ℕ) → Action Value
@@ -40,15 +40,15 @@ handled_or_error (Some v) = raises v
 
 -- `raise` alone raises the exception that is under way
 abbrev pub raise_again : {A : Type 0} → Action A
-raise_again = then_do may_raise (looks (λ m. handled_or_error m.handled))
+raise_again = then_do may_raise (looks (λ m. handled_or_error m.scope.handled))
 
 -- a failed assertion reads its class by name, calls it and raises the instance
 abbrev pub raise_assertion : {A : Type 0} → Program → (site line : ℕ) → Action A
 raise_assertion p site line = bind (then_do may_raise (builtin_value (codes "AssertionError"))) (λ k. raise_made p k site line)
 
-abbrev pub with_handled : Option Value → Memory → Memory
-with_handled o m = record m { handled = o }
+abbrev pub with_handled : Option Value → Scope → Scope
+with_handled o c = record c { handled = o }
 
 -- an exception is under way during an action, and what was under way before is so again after it
 abbrev pub handling : {A : Type 0} → Value → Action A → Action A
-handling v a = looks (λ m. changes (with_handled (Some v)) (afterwards a (with_handled m.handled)))
+handling v a = looks (λ m. changes (with_handled (Some v)) (afterwards a (with_handled m.scope.handled)))

@@ -69,7 +69,7 @@ abbrev mutual
   eval_kind p (tree.or a b) line site = bind (eval p a) (λ v. bind (truth_of v) (λ t. kept_or t v (eval p b)))
   eval_kind p (tree.choice a c b) line site = bind (eval p c) (λ v. bind (truth_of v) (λ t. chosen t (eval p a) (eval p b)))
   eval_kind p (tree.attr a n) line site = bind (eval p a) (λ v. then_do may_raise (read_attribute p line v n))
-  eval_kind p (tree.super n) line site = then_do may_raise (looks (λ m. super_in p line n m.frame))
+  eval_kind p (tree.super n) line site = then_do may_raise (looks (λ m. super_in p line n m.scope.frame))
   eval_kind p (tree.item a i) line site = bind (eval p a) (λ v. bind (eval p i) (λ w. then_do may_raise (read_item p line v w)))
   eval_kind p (tree.slice a low high step) line site =
       bind (eval p a) (λ v. then_do (eval_bound p low) (then_do (eval_bound p high) (then_do (eval_bound p step) (then_do may_raise (read_slice p site line v)))))

@@ -1,19 +1,18 @@
 -- What holds of every run.
-use Rattle.std.specs.Prelude.{◌≡◌, ℕ, ◌≤◌, Bool, false, List, [], ◌++◌, Some, Contains}
-use Rattle.place_ids.specs.declared.operators.BinOp.{BinOp}
-use Rattle.builtin_stubs.specs.declared.basic.Basic.{Basic}
-use Rattle.builtin_stubs.specs.Operators.{op_kinds}
+use Rattle.std.specs.Prelude.{◌≡◌, ℕ, ◌≤◌, ◌<◌, ◌%◌, ◌/◌, ◌==◌, Bool, true, false, List, [], ◌∷◌, ◌++◌, length, slice_get, unwrap_or}
 use Rattle.type_terms.specs.Stubs.{Stub}
 use Rattle.type_terms.specs.Terms as term
-use Rattle.py_tree.specs.Tree.{Module}
-use Rattle.py_meaning.specs.Values.{Value, truth}
-use Rattle.py_meaning.specs.Objects.{kind_of, is_unfollowed_at}
-use Rattle.py_meaning.specs.Operators.{binary}
+use Rattle.type_terms.specs.Exceptions.{exception_names}
+use Rattle.py_tree.specs.Tree.{Expr, Stmts, Module}
+use Rattle.py_meaning.specs.Values.{Value, truth, ref}
+use Rattle.py_meaning.specs.Objects.{outside}
+use Rattle.py_meaning.specs.Expressions.{eval}
+use Rattle.py_meaning.specs.Statements.{exec_all}
 use Rattle.py_meaning.specs.Events.{Event}
 use Rattle.py_meaning.specs.Programs.{Program, program}
 use Rattle.py_meaning.specs.Fresh.{fresh}
-use Rattle.py_meaning.specs.Actions.{Flow, OutsideCall, Request, then_do}
-use Rattle.py_meaning.specs.Runs.{State, Answer, gave, raised, stopped, carry_out, turns_within, start, module_action, make_calls, ran_out_of_turns, Ending, run_of, answer, run}
+use Rattle.py_meaning.specs.Actions.{with_new, Flow, OutsideCall, Request, then_do, may_raise}
+use Rattle.py_meaning.specs.Runs.{State, Answer, gave, raised, stopped, with_memory, with_choices, carry_out, turns_within, start, module_action, make_calls, ran_out_of_turns, Ending, run_of, answer, run}
 
 -- the state that was reached
 abbrev pub reached : {A : Type 0} → Answer A → State
@@ -69,9 +68,20 @@ CallsAddEvents =
     (m : Module) (stubs : List (List ℕ × Stub)) (n : ℕ) (choices : List ℕ) (calls : List OutsideCall) →
     (more : List Event) × ((run m stubs n choices calls).events ≡ (run m stubs n choices []).events ++ more)
 
--- what an operator gives of values that are followed is of a kind of its row
-abbrev pub OperatorsKeepTheirRows : Type 0
-OperatorsKeepTheirRows =
-    (p : Program) (turns_in : Request → State → Answer Flow) (op : BinOp) (site line : ℕ) (v w x : Value) (s t : State) →
-    is_unfollowed_at s.memory.heap v ≡ false → is_unfollowed_at s.memory.heap w ≡ false → carry_out turns_in (binary p op site line v w) s ≡ gave x t →
-    (kinds : List Basic) × (op_kinds op (kind_of s.memory.heap v) (kind_of s.memory.heap w) ≡ Some kinds) × Contains kinds (kind_of t.memory.heap x)
+-- A step that may raise takes one choice: where its remainder by 64 is 63 the step raises an exception that is made for it, and
+-- else it does nothing.
+pub record StepsMayRaise : Type 0 where
+  pub raises :
+      (turns_in : Request → State → Answer Flow) (c : ℕ) (cs : List ℕ) (s : State) → s.choices ≡ c ∷ cs → (c % 64 == 63) ≡ true →
+      carry_out turns_in may_raise s
+      ≡ raised (ref (length s.memory.heap)) (with_memory (with_new (outside (term.class (unwrap_or (slice_get exception_names ((c / 64) % length exception_names)) []))) s.memory) (with_choices cs s))
+  pub goes_on :
+      (turns_in : Request → State → Answer Flow) (c : ℕ) (cs : List ℕ) (s : State) → s.choices ≡ c ∷ cs → (c % 64 == 63) ≡ false →
+      carry_out turns_in may_raise s ≡ gave tt (with_choices cs s)
+
+-- Whatever statements and expressions raise comes behind a choice that they took.
+pub record RaisesTakeAChoice : Type 0 where
+  pub statements :
+      (p : Program) (n : ℕ) (ss : Stmts) (v : Value) (s t : State) → carry_out (turns_within p n) (exec_all p ss) s ≡ raised v t → length t.choices < length s.choices
+  pub expressions :
+      (p : Program) (n : ℕ) (x : Expr) (v : Value) (s t : State) → carry_out (turns_within p n) (eval p x) s ≡ raised v t → length t.choices < length s.choices

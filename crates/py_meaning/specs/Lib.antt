@@ -23,6 +23,10 @@ pub mod Imports
 pub mod Statements
 pub mod Calls
 pub mod Runs
+pub mod Holds
 pub mod Belongs
 pub mod Laws
+pub mod ObjectLaws
+pub mod KindLaws
+pub mod UnionLaws
 pub mod References

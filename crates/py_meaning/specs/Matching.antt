@@ -35,28 +35,32 @@ module _ {N : Type 0} (same : N → N → Bool) where
         | Some i ↦ if nat_lt i filled || list_any (same k) earlier then Some duplicate_keyword else keyword_fault params filled (k ∷ earlier) ks
       ]
 
-  -- what a parameter behind those filled by position gets; none where it is missing
-  abbrev pub named_source : (positional : ℕ) → List N → N × Bool → Option Source
-  named_source positional keywords param =
-      elim (position (λ k. same k param.0) keywords) [ Some j ↦ Some (argument (positional + j)) | None ↦ if param.1 then Some default else None ]
+  -- the keyword of a parameter: of several parameters of one name the first has it
+  abbrev pub own_keyword : (earlier : List N) → List N → N → Option ℕ
+  own_keyword earlier keywords name = if list_any (same name) earlier then None else position (λ k. same k name) keywords
+
+  -- what a parameter behind those filled by position gets, where others stand before it; none where it is missing
+  abbrev pub named_source : (positional : ℕ) → List N → (earlier : List N) → N × Bool → Option Source
+  named_source positional keywords earlier param =
+      elim (own_keyword earlier keywords param.0) [ Some j ↦ Some (argument (positional + j)) | None ↦ if param.1 then Some default else None ]
 
   abbrev pub with_source : Option Source → Option (List Source) → Option (List Source)
   with_source (Some s) (Some ss) = Some (s ∷ ss)
   with_source _ _ = None
 
-  abbrev pub named_sources : (positional : ℕ) → List N → List (N × Bool) → Option (List Source)
-  named_sources positional keywords [] = Some []
-  named_sources positional keywords (q ∷ qs) = with_source (named_source positional keywords q) (named_sources positional keywords qs)
+  abbrev pub named_sources : (positional : ℕ) → List N → (earlier : List N) → List (N × Bool) → Option (List Source)
+  named_sources positional keywords earlier [] = Some []
+  named_sources positional keywords earlier (q ∷ qs) = with_source (named_source positional keywords earlier q) (named_sources positional keywords (q.0 ∷ earlier) qs)
 
   -- the arguments by position from the one at a place on, and then the others
-  abbrev pub sources : (place positional : ℕ) → (left : ℕ) → List N → List (N × Bool) → Option (List Source)
-  sources place positional zero keywords qs = named_sources positional keywords qs
-  sources place positional (suc left) keywords [] = Some []
-  sources place positional (suc left) keywords (q ∷ qs) = with_source (Some (argument place)) (sources (suc place) positional left keywords qs)
+  abbrev pub sources : (place positional : ℕ) → (left : ℕ) → List N → (earlier : List N) → List (N × Bool) → Option (List Source)
+  sources place positional zero keywords earlier qs = named_sources positional keywords earlier qs
+  sources place positional (suc left) keywords earlier [] = Some []
+  sources place positional (suc left) keywords earlier (q ∷ qs) = with_source (Some (argument place)) (sources (suc place) positional left keywords (q.0 ∷ earlier) qs)
 
   abbrev pub all_sources : List (N × Bool) → (bound : Bool) → Call N → Option (List Source)
-  all_sources (q ∷ qs) true c = with_source (Some receiver) (sources 0 c.positional c.positional c.keywords qs)
-  all_sources qs _ c = sources 0 c.positional c.positional c.keywords qs
+  all_sources (q ∷ qs) true c = with_source (Some receiver) (sources 0 c.positional c.positional c.keywords (q.0 ∷ []) qs)
+  all_sources qs _ c = sources 0 c.positional c.positional c.keywords [] qs
 
   abbrev pub filled_places : (bound : Bool) → ℕ → ℕ
   filled_places true positional = suc positional

@@ -9,7 +9,7 @@ use Rattle.py_meaning.specs.Objects as object
 use Rattle.py_meaning.specs.Objects.{builtin}
 use Rattle.py_meaning.specs.Programs.{Program, text_at, is_local, is_bound}
 use Rattle.py_meaning.specs.Fresh.{value_of_row}
-use Rattle.py_meaning.specs.Actions.{Frame, Memory, Action, gives, looks, bind, changes, allocate, anything, raise_builtin, may_raise, done}
+use Rattle.py_meaning.specs.Actions.{Frame, Scope, Action, gives, looks, bind, changes, allocate, anything, raise_builtin, may_raise, done}
 
 -- ---- reading
 
@@ -30,34 +30,34 @@ builtin_value name =
     ]
 
 -- a global of the module, then a builtin
-abbrev pub global_value : Program → Memory → (name : ℕ) → Action Value
-global_value p m name = if is_bound p name then found_or (codes "NameError") (entry m.globals name) else builtin_value (text_at p name)
+abbrev pub global_value : Program → Scope → (name : ℕ) → Action Value
+global_value p c name = if is_bound p name then found_or (codes "NameError") (entry c.globals name) else builtin_value (text_at p name)
 
-abbrev pub value_in_frame : Program → Memory → (name : ℕ) → Option Frame → Action Value
-value_in_frame p m name None = global_value p m name
-value_in_frame p m name (Some f) = if is_local p f.function name then found_or (codes "UnboundLocalError") (entry f.locals name) else global_value p m name
+abbrev pub value_in_frame : Program → Scope → (name : ℕ) → Option Frame → Action Value
+value_in_frame p c name None = global_value p c name
+value_in_frame p c name (Some f) = if is_local p f.function name then found_or (codes "UnboundLocalError") (entry f.locals name) else global_value p c name
 
 abbrev pub load : Program → (name : ℕ) → Action Value
-load p name = bind may_raise (λ x. looks (λ m. value_in_frame p m name m.frame))
+load p name = bind may_raise (λ x. looks (λ m. value_in_frame p m.scope name m.scope.frame))
 
 -- ---- binding and unbinding
 
-abbrev pub with_globals : (Entries → Entries) → Memory → Memory
-with_globals f m = record m { globals = f m.globals }
+abbrev pub with_globals : (Entries → Entries) → Scope → Scope
+with_globals f c = record c { globals = f c.globals }
 
-abbrev pub with_locals : (Entries → Entries) → Frame → Memory → Memory
-with_locals f frame m = record m { frame = Some (record frame { locals = f frame.locals }) }
+abbrev pub with_locals : (Entries → Entries) → Frame → Scope → Scope
+with_locals f frame c = record c { frame = Some (record frame { locals = f frame.locals }) }
 
 -- a change of the entries in which a name stands: the locals of the function that is under way, or the globals
-abbrev pub changed_in_frame : Program → (name : ℕ) → (Entries → Entries) → Option Frame → Memory → Memory
-changed_in_frame p name f None m = with_globals f m
-changed_in_frame p name f (Some frame) m = if is_local p frame.function name then with_locals f frame m else with_globals f m
+abbrev pub changed_in_frame : Program → (name : ℕ) → (Entries → Entries) → Option Frame → Scope → Scope
+changed_in_frame p name f None c = with_globals f c
+changed_in_frame p name f (Some frame) c = if is_local p frame.function name then with_locals f frame c else with_globals f c
 
-abbrev pub bound : Program → (name : ℕ) → Value → Memory → Memory
-bound p name v m = changed_in_frame p name (λ es. with_entry es name v) m.frame m
+abbrev pub bound : Program → (name : ℕ) → Value → Scope → Scope
+bound p name v c = changed_in_frame p name (λ es. with_entry es name v) c.frame c
 
-abbrev pub unbound : Program → (name : ℕ) → Memory → Memory
-unbound p name m = changed_in_frame p name (λ es. without_entry es name) m.frame m
+abbrev pub unbound : Program → (name : ℕ) → Scope → Scope
+unbound p name c = changed_in_frame p name (λ es. without_entry es name) c.frame c
 
 abbrev pub store : Program → (name : ℕ) → Value → Action (Unit {0})
 store p name v = changes (bound p name v) done

@@ -27,7 +27,7 @@ use Rattle.py_meaning.specs.Iteration.{items_of}
 use Rattle.py_meaning.specs.ClassTests.{decided, instance_test, class_at}
 use Rattle.py_meaning.specs.Matching.{Call, native_fault}
 use Rattle.py_meaning.specs.Dicts.{add_pairs, add_from}
-use Rattle.py_meaning.specs.Actions.{Argument, Action, gives, takes, counts, looks, bind, then_do, allocate, replace, anything, at_place, is_even, pick, one_of, raise_builtin, fails, done}
+use Rattle.py_meaning.specs.Actions.{Argument, Action, gives, takes, counts, looks, bind, then_do, allocate, refill, anything, at_place, is_even, pick, one_of, raise_builtin, fails, done}
 
 -- ---- arguments
 
@@ -198,7 +198,7 @@ entering p to receiver as' (e ∷ es) =
     else entering p to receiver as' es
 
 abbrev pub parts_added : (place : ℕ) → List Value → Object → Action (Unit {0})
-parts_added place ws (object.list site vs) = replace place (object.list site (vs ++ ws))
+parts_added place ws (object.list site vs) = refill place (object.of_values (vs ++ ws))
 parts_added place ws _ = done
 
 abbrev pub add_parts : (place : ℕ) → List Value → Action (Unit {0})
@@ -223,27 +223,27 @@ do_effects p _ as' es = done
 -- ---- single parts of lists
 
 abbrev pub inserts : (place : ℕ) → Value → Object → Action Value
-inserts place v (object.list site vs) = bind (pick (suc (length vs))) (λ i. then_do (replace place (object.list site (insert vs i v))) gives_none)
+inserts place v (object.list site vs) = bind (pick (suc (length vs))) (λ i. then_do (refill place (object.of_values (insert vs i v))) gives_none)
 inserts place v _ = gives_none
 
 -- without the part at a place
-abbrev pub take_part : (place site : ℕ) → List Value → ℕ → Action (Unit {0})
-take_part place site vs i = replace place (object.list site (remove vs i))
+abbrev pub take_part : (place : ℕ) → List Value → ℕ → Action (Unit {0})
+take_part place vs i = refill place (object.of_values (remove vs i))
 
 abbrev pub pops : Program → (place : ℕ) → Object → Action Value
 pops p place (object.list site []) = raise_builtin (codes "IndexError")
 pops p place (object.list site (v ∷ vs)) =
-    bind (pick (length (v ∷ vs))) (λ i. then_do (take_part place site (v ∷ vs) i) (gives (unwrap_or (slice_get (v ∷ vs) i) v)))
+    bind (pick (length (v ∷ vs))) (λ i. then_do (take_part place (v ∷ vs) i) (gives (unwrap_or (slice_get (v ∷ vs) i) v)))
 pops p place o = bind (one_of (contents o)) (λ c. elim c [ None ↦ raise_builtin (codes "IndexError") | Some one ↦ read p one ])
 
 abbrev pub removes : (place : ℕ) → Object → Action Value
 removes place (object.list site []) = raise_builtin (codes "ValueError")
-removes place (object.list site (v ∷ vs)) = bind (pick (length (v ∷ vs))) (λ i. then_do (take_part place site (v ∷ vs) i) gives_none)
+removes place (object.list site (v ∷ vs)) = bind (pick (length (v ∷ vs))) (λ i. then_do (take_part place (v ∷ vs) i) gives_none)
 removes place _ = gives_none
 
 abbrev pub clears : (place : ℕ) → Object → Action Value
-clears place (object.list site vs) = then_do (replace place (object.list site [])) gives_none
-clears place (object.dict site qs) = then_do (replace place (object.dict site [])) gives_none
+clears place (object.list site vs) = then_do (refill place (object.of_values [])) gives_none
+clears place (object.dict site qs) = then_do (refill place (object.of_pairs [])) gives_none
 clears place _ = gives_none
 
 -- ---- single pairs of dicts: a pair that a choice picks, or, at the last number, none
@@ -263,7 +263,7 @@ sets_default p place vs o =
     ])
 
 abbrev pub pair_taken : (place : ℕ) → ℕ → Object → Action (Unit {0})
-pair_taken place i (object.dict site qs) = replace place (object.dict site (remove qs i))
+pair_taken place i (object.dict site qs) = refill place (object.of_pairs (remove qs i))
 pair_taken place i _ = done
 
 abbrev pub given_or_error : Option Value → Action Value

@@ -42,6 +42,20 @@ pub data Object : Type 0 where
   -- what the module didn't make, with its declared type, which is no union
   outside : Term → Object
 
+-- what an object may have in place of its parts
+pub data Filling : Type 0 where
+  of_values : List Value → Filling
+  of_pairs : List (Value × Value) → Filling
+  of_entries : Entries → Filling
+
+-- An object with other parts is what it was; a tuple, a view and what isn't the module's own keep theirs.
+abbrev pub refilled : Object → Filling → Object
+refilled (list site xs) (of_values ys) = list site ys
+refilled (dict site ps) (of_pairs qs) = dict site qs
+refilled (instance c es) (of_entries ds) = instance c ds
+refilled (class c es) (of_entries ds) = class c ds
+refilled o _ = o
+
 -- Every reference of a run points into its heap; of any other the definitions say something all the same.
 abbrev pub object_at : List Object → ℕ → Object
 object_at heap place = unwrap_or (slice_get heap place) (outside term.any)

@@ -2,14 +2,14 @@
 use Rattle.std.specs.Prelude.{ℕ, zero, suc, Bool, true, false, List, [], ◌∷◌, ◌++◌, length, Option, Some, None}
 use Rattle.type_terms.specs.Stubs.{Stub}
 use Rattle.py_tree.specs.Tree.{Module}
-use Rattle.py_meaning.specs.Values.{Value, entry}
+use Rattle.py_meaning.specs.Values.{Value, ref, entry}
 use Rattle.py_meaning.specs.Objects.{Object}
 use Rattle.py_meaning.specs.Events.{Event, held}
 use Rattle.py_meaning.specs.Programs.{Program, FunRow, program, printed, fun_at}
 use Rattle.py_meaning.specs.Statements.{exec_all}
 use Rattle.py_meaning.specs.Truth.{has_parts}
 use Rattle.py_meaning.specs.Calls.{receivers, perform}
-use Rattle.py_meaning.specs.Actions.{Memory, Flow, OutsideCall, calls_function, calls_class, Request, outside_call, Outcome, came, threw, Action, gives, raises, takes, counts, turn, looks, becomes, tells, then_do, done}
+use Rattle.py_meaning.specs.Actions.{Scope, Memory, with_scope, with_new, with_parts, Flow, OutsideCall, calls_function, calls_class, Request, call, while_turn, for_turn, outside_call, Outcome, came, threw, Action, gives, raises, takes, counts, turn, looks, becomes, makes, refills, tells, then_do, done}
 
 -- what a run has reached
 pub record State : Type 0 where
@@ -58,7 +58,9 @@ carry_out turns_in (takes k) s = take_choice s.choices (λ c. carry_out turns_in
 carry_out turns_in (counts k) s = carry_out turns_in (k (length s.choices)) s
 carry_out turns_in (turn q k) s = after_turn (turns_in q s) (λ o. carry_out turns_in (k o))
 carry_out turns_in (looks k) s = carry_out turns_in (k s.memory) s
-carry_out turns_in (becomes m a) s = carry_out turns_in a (with_memory m s)
+carry_out turns_in (becomes c a) s = carry_out turns_in a (with_memory (with_scope c s.memory) s)
+carry_out turns_in (makes o k) s = carry_out turns_in (k (ref (length s.memory.heap))) (with_memory (with_new o s.memory) s)
+carry_out turns_in (refills place new a) s = carry_out turns_in a (with_memory (with_parts place new s.memory) s)
 carry_out turns_in (tells e a) s = carry_out turns_in a (with_event e s)
 
 -- A turn begins only where one is left.
@@ -66,15 +68,30 @@ abbrev pub begin_turn : ℕ → (State → Answer Flow) → State → Answer Flo
 begin_turn zero f s = stopped out_of_turns s
 begin_turn (suc n) f s = f (with_turns n s)
 
+-- A call leaves its caller's frame, and the exception that is under way there, as they were; a turn of a loop may bind names.
+abbrev pub scope_after : Request → (before : Scope) → Scope → Scope
+scope_after (call f as' site line) before c = record before { globals = c.globals }
+scope_after (outside_call o) before c = record before { globals = c.globals }
+scope_after (while_turn test body) before c = c
+scope_after (for_turn target body line v x) before c = c
+
+abbrev pub back_from : Request → (before : Scope) → State → State
+back_from q before s = with_memory (with_scope (scope_after q before s.memory.scope) s.memory) s
+
+abbrev pub come_back : Request → (before : Scope) → Answer Flow → Answer Flow
+come_back q before (gave flow s) = gave flow (back_from q before s)
+come_back q before (raised v s) = raised v (back_from q before s)
+come_back q before (stopped why s) = stopped why s
+
 -- what a turn does, where turns stand one in the other so many times at most
 unfoldable pub turns_within : Program → ℕ → Request → State → Answer Flow
 turns_within p zero q s = stopped out_of_turns s
-turns_within p (suc n) q s = begin_turn s.turns (carry_out (turns_within p n) (perform p q)) s
+turns_within p (suc n) q s = come_back q s.memory.scope (begin_turn s.turns (carry_out (turns_within p n) (perform p q)) s)
 
 -- ---- a run of a module
 
 abbrev pub no_memory : Memory
-no_memory = record { frame = None; globals = []; heap = []; handled = None }
+no_memory = record { scope = record { frame = None; globals = []; handled = None }; heap = [] }
 
 abbrev pub start : ℕ → List ℕ → State
 start n choices = record { memory = no_memory; events = []; choices = choices; turns = n }
@@ -86,7 +103,7 @@ tell_if name (Some v) a = tells (held name v) a
 
 abbrev pub tell_names : List ℕ → Action (Unit {0})
 tell_names [] = done
-tell_names (name ∷ names) = looks (λ m. tell_if name (entry m.globals name) (tell_names names))
+tell_names (name ∷ names) = looks (λ m. tell_if name (entry m.scope.globals name) (tell_names names))
 
 abbrev pub module_action : Program → Action (Unit {0})
 module_action p = then_do (exec_all p p.body) (tell_names (printed p))

@@ -15,7 +15,7 @@ use Rattle.py_meaning.specs.Expressions.{eval, chosen}
 use Rattle.py_meaning.specs.Targets.{put, put_each, augment}
 use Rattle.py_meaning.specs.Imports.{module_name, import_all, take_all}
 use Rattle.py_meaning.specs.Exceptions.{raise_made, raise_again, raise_assertion, handling}
-use Rattle.py_meaning.specs.Actions.{Flow, goes_on, breaks, continues, returns, while_turn, for_turn, Outcome, came, threw, Action, gives, raises, turn, attempt, bind, then_do, afterwards, allocate, replace, at_place, may_raise, fails, done}
+use Rattle.py_meaning.specs.Actions.{Flow, goes_on, breaks, continues, returns, while_turn, for_turn, Outcome, came, threw, Action, gives, raises, turn, attempt, bind, then_do, afterwards, allocate, refill, at_place, may_raise, fails, done}
 
 -- goes on after an action
 abbrev pub and_on : {A : Type 0} → Action A → Action Flow
@@ -81,7 +81,7 @@ once_more (returns v) a = gives (returns v)
 -- ---- functions and classes ("Function definitions", "Class definitions")
 
 abbrev pub with_member : (place name : ℕ) → Value → Object → Action (Unit {0})
-with_member place name v (object.class c es) = replace place (object.class c (with_entry es name v))
+with_member place name v (object.class c es) = refill place (object.of_entries (with_entry es name v))
 with_member place name v _ = done
 
 abbrev pub set_member : (place name : ℕ) → Value → Action (Unit {0})

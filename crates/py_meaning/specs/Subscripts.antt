@@ -14,7 +14,7 @@ use Rattle.py_meaning.specs.Programs.{Program}
 use Rattle.py_meaning.specs.Fresh.{fresh_text, fresh_octets, of_kind}
 use Rattle.py_meaning.specs.Contents.{Content, contents_at, pairs, read}
 use Rattle.py_meaning.specs.Iteration.{Step, no_items, ended, element, iterate, drain}
-use Rattle.py_meaning.specs.Actions.{Action, gives, takes, looks, bind, allocate, replace, anything, at_place, is_even, pick, one_of, raise_builtin, may_raise, fails, done}
+use Rattle.py_meaning.specs.Actions.{Action, gives, takes, looks, bind, allocate, refill, anything, at_place, is_even, pick, one_of, raise_builtin, may_raise, fails, done}
 
 -- ---- reading: any part, by choice
 
@@ -54,9 +54,9 @@ read_item p line v i =
 -- ---- storing
 
 -- in place of a part that a choice picks; without parts an IndexError
-abbrev pub store_part : (place site : ℕ) → List Value → Value → Action (Unit {0})
-store_part place site [] v = raise_builtin (codes "IndexError")
-store_part place site (x ∷ xs) v = bind (pick (length (x ∷ xs))) (λ i. replace place (object.list site (slice_set (x ∷ xs) i v)))
+abbrev pub store_part : (place : ℕ) → List Value → Value → Action (Unit {0})
+store_part place [] v = raise_builtin (codes "IndexError")
+store_part place (x ∷ xs) v = bind (pick (length (x ∷ xs))) (λ i. refill place (object.of_values (slice_set (x ∷ xs) i v)))
 
 -- the value in place of that of a pair, or at the last number a new pair at the end
 abbrev pub with_pair : List (Value × Value) → ℕ → Value → Value → List (Value × Value)
@@ -64,13 +64,13 @@ with_pair [] i k v = (k, v) ∷ []
 with_pair (q ∷ qs) zero k v = (q.0, v) ∷ qs
 with_pair (q ∷ qs) (suc i) k v = q ∷ with_pair qs i k v
 
-abbrev pub store_pair : (place site : ℕ) → List (Value × Value) → Value → Value → Action (Unit {0})
-store_pair place site qs k v = bind (pick (suc (length qs))) (λ i. replace place (object.dict site (with_pair qs i k v)))
+abbrev pub store_pair : (place : ℕ) → List (Value × Value) → Value → Value → Action (Unit {0})
+store_pair place qs k v = bind (pick (suc (length qs))) (λ i. refill place (object.of_pairs (with_pair qs i k v)))
 
 -- a store into what is outside is forgotten
 abbrev pub store_in_object : (place line : ℕ) → Value → Value → Object → Action (Unit {0})
-store_in_object place line i v (object.list site xs) = store_part place site xs v
-store_in_object place line i v (object.dict site qs) = store_pair place site qs i v
+store_in_object place line i v (object.list site xs) = store_part place xs v
+store_in_object place line i v (object.dict site qs) = store_pair place qs i v
 store_in_object place line i v (object.outside (term.list t)) = done
 store_in_object place line i v (object.outside (term.dict t u)) = done
 store_in_object place line i v o = if is_unfollowed o then done else fails line unsupported_operands

@@ -18,7 +18,7 @@ use Rattle.py_meaning.specs.Subscripts.{read_item, store_item, unpack}
 use Rattle.py_meaning.specs.Attributes.{read_attribute, store_attribute}
 use Rattle.py_meaning.specs.Names.{load, store}
 use Rattle.py_meaning.specs.Expressions.{eval}
-use Rattle.py_meaning.specs.Actions.{Action, gives, looks, bind, then_do, replace, at_place, may_raise, fails, done}
+use Rattle.py_meaning.specs.Actions.{Action, gives, looks, bind, then_do, refill, at_place, may_raise, fails, done}
 
 abbrev pub count_of : Exprs → ℕ
 count_of no_exprs = 0
@@ -62,15 +62,23 @@ extend_in_place p line place w =
     looks (λ m.
     if is_iterable m.heap w then bind (items_of p w) (λ ws. then_do (add_parts place ws) (gives (ref place))) else fails line not_iterable)
 
-abbrev pub repeat_in_place : Program → (place site : ℕ) → List Value → Action Value
-repeat_in_place p place site vs = bind (repeated p (map held vs)) (λ ws. then_do (replace place (object.list site ws)) (gives (ref place)))
+abbrev pub repeat_in_place : Program → (place : ℕ) → List Value → Action Value
+repeat_in_place p place vs = bind (repeated p (map held vs)) (λ ws. then_do (refill place (object.of_values ws)) (gives (ref place)))
+
+abbrev pub in_own_list : Program → BinOp → (site line : ℕ) → (place : ℕ) → Value → List Value → Action Value
+in_own_list p bin.Add site line place w vs = extend_in_place p line place w
+in_own_list p bin.Mul site line place w vs = if is_whole w then repeat_in_place p place vs else binary p bin.Mul site line (ref place) w
+in_own_list p op site line place w vs = binary p op site line (ref place) w
 
 -- Adding to a list from outside, and multiplying it, is forgotten.
+abbrev pub in_outside_list : Program → BinOp → (site line : ℕ) → (place : ℕ) → Value → Action Value
+in_outside_list p bin.Add site line place w = gives (ref place)
+in_outside_list p bin.Mul site line place w = gives (ref place)
+in_outside_list p op site line place w = binary p op site line (ref place) w
+
 abbrev pub in_place_object : Program → BinOp → (site line : ℕ) → (place : ℕ) → Value → Object → Action Value
-in_place_object p bin.Add site line place w (object.list own vs) = extend_in_place p line place w
-in_place_object p bin.Mul site line place w (object.list own vs) = if is_whole w then repeat_in_place p place own vs else binary p bin.Mul site line (ref place) w
-in_place_object p bin.Add site line place w (object.outside (term.list t)) = gives (ref place)
-in_place_object p bin.Mul site line place w (object.outside (term.list t)) = gives (ref place)
+in_place_object p op site line place w (object.list own vs) = in_own_list p op site line place w vs
+in_place_object p op site line place w (object.outside (term.list t)) = in_outside_list p op site line place w
 in_place_object p op site line place w o = binary p op site line (ref place) w
 
 abbrev pub in_place : Program → BinOp → (site line : ℕ) → Value → Value → Action Value

@@ -38,6 +38,7 @@ abbrev pub with_entry : Entries → ℕ → Value → Entries
 with_entry [] name v = (name, v) ∷ []
 with_entry (e ∷ es) name v = if e.0 == name then (name, v) ∷ es else e ∷ with_entry es name v
 
+-- without any under this name
 abbrev pub without_entry : Entries → ℕ → Entries
 without_entry [] name = []
-without_entry (e ∷ es) name = if e.0 == name then es else e ∷ without_entry es name
+without_entry (e ∷ es) name = if e.0 == name then without_entry es name else e ∷ without_entry es name

@@ -1,6 +1,9 @@
 //! What holds of every run.
 ghost use Rattle.py_meaning.specs.References.{ReferencesPointIn};
-ghost use Rattle.py_meaning.specs.Laws.{MoreTurnsChangeNothing, NestingIsEnough, ChoicesFromTheFront, WholeIsNoTruth, NothingAfterTheEnding, CallsAddEvents, OperatorsKeepTheirRows};
+ghost use Rattle.py_meaning.specs.UnionLaws.{UnionsHaveTheirMembers};
+ghost use Rattle.py_meaning.specs.KindLaws.{FreshIsOfAKind, OperatorsKeepTheirRows, SignsKeepTheirRows, OrdersKeepTheirRows, OtherKindsHaveNoSlice, OtherKindsTakeNoItems};
+ghost use Rattle.py_meaning.specs.Laws.{MoreTurnsChangeNothing, NestingIsEnough, ChoicesFromTheFront, WholeIsNoTruth, NothingAfterTheEnding, CallsAddEvents, StepsMayRaise, RaisesTakeAChoice};
+ghost use Rattle.py_meaning.specs.ObjectLaws.{ObjectsStay, PartsChangeByOneStep, CallsLeaveFrames};
 
 /// More turns change nothing of a run that is over.
 pub fn more_turns_change_nothing()
@@ -37,7 +40,50 @@ pub fn references_point_in()
     ensures { ReferencesPointIn }
 {}
 
+/// A fresh value of a type is of a kind that the type has.
+pub fn fresh_is_of_a_kind()
+    ensures { FreshIsOfAKind }
+{}
+
 /// What an operator gives of values that are followed is of a kind of its row.
 pub fn operators_keep_their_rows()
-    ensures { OperatorsKeepTheirRows }
+    ensures binary { OperatorsKeepTheirRows }
+    ensures unary { SignsKeepTheirRows }
+    ensures order { OrdersKeepTheirRows }
+{}
+
+/// A step that may raise takes one choice, which says whether it raises.
+pub fn steps_may_raise()
+    ensures { StepsMayRaise }
+{}
+
+/// Whatever is raised comes behind a choice.
+pub fn raises_take_a_choice()
+    ensures { RaisesTakeAChoice }
+{}
+
+/// Whatever is done, each object keeps its kind, its class and its place, and the heap only grows.
+pub fn objects_stay()
+    ensures { ObjectsStay }
+{}
+
+/// Parts change by one step alone, and by it those of one object.
+pub fn parts_change_by_one_step()
+    ensures { PartsChangeByOneStep }
+{}
+
+/// A call leaves its caller's frame, and the exception that is under way there.
+pub fn calls_leave_frames()
+    ensures { CallsLeaveFrames }
+{}
+
+/// A value belongs to the normal form of a union exactly where it belongs to one of its members.
+pub fn unions_have_their_members()
+    ensures { UnionsHaveTheirMembers }
+{}
+
+/// What has no slice, and takes no store by an index, is told by its kind alone.
+pub fn subscripts_are_by_kind()
+    ensures slices { OtherKindsHaveNoSlice }
+    ensures stores { OtherKindsTakeNoItems }
 {}

@@ -25,8 +25,6 @@ mod refusals;
 mod statements;
 mod symbols;
 mod targets;
-#[cfg(test)]
-mod tests;
 
 pub use fault::ParseFault;
 pub use module::parse;

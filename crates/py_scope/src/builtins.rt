@@ -1,84 +1,14 @@
 //! The names that the rules treat apart.
-ghost use Rattle.std.specs.Prelude.{◌≡◌, map, option_map, slice_get};
-ghost use Rattle.std.specs.List.{position_or_len};
-ghost use Rattle.std.specs.Option.{option_and_then};
-ghost use Rattle.std.specs.Str.{bytes_eq};
+ghost use Rattle.std.specs.Prelude.{◌≡◌, ◌||◌, map};
 ghost use Rattle.scope_rules.specs.Builtins as spec;
 ghost use Rattle.scope_rules.specs.NameLists.{text_of as text_at};
-ghost use Rattle.type_terms.specs.BuiltinNames.{has_name};
-ghost use Rattle.type_terms.specs.Exceptions.{exception_names, is_exception as is_exception_class};
+ghost use Rattle.type_terms.specs.BuiltinNames.{builtin_classes, builtin_functions, builtin_texts, has_name};
+ghost use Rattle.type_terms.specs.Exceptions.{is_exception as is_exception_class};
 
 use place_ids::{NameId, Names};
-
-// The functions, the classes without the exceptions, and the texts.
-static PLAIN: [&str; 24] = [
-    "print",
-    "input",
-    "len",
-    "ord",
-    "repr",
-    "chr",
-    "isinstance",
-    "sorted",
-    "min",
-    "max",
-    "enumerate",
-    "zip",
-    "list",
-    "tuple",
-    "dict",
-    "str",
-    "int",
-    "float",
-    "bytes",
-    "bool",
-    "range",
-    "object",
-    "__name__",
-    "__file__",
-];
-
-// Each after the class above it.
-static EXCEPTIONS: [&str; 34] = [
-    "BaseException",
-    "SystemExit",
-    "KeyboardInterrupt",
-    "GeneratorExit",
-    "Exception",
-    "ArithmeticError",
-    "AssertionError",
-    "AttributeError",
-    "EOFError",
-    "ImportError",
-    "LookupError",
-    "MemoryError",
-    "NameError",
-    "OSError",
-    "RuntimeError",
-    "StopIteration",
-    "TypeError",
-    "ValueError",
-    "OverflowError",
-    "ZeroDivisionError",
-    "ModuleNotFoundError",
-    "IndexError",
-    "KeyError",
-    "UnboundLocalError",
-    "FileExistsError",
-    "FileNotFoundError",
-    "PermissionError",
-    "TimeoutError",
-    "ConnectionError",
-    "NotImplementedError",
-    "RecursionError",
-    "UnicodeError",
-    "UnicodeDecodeError",
-    "UnicodeEncodeError",
-];
-
-static TYPING: [&str; 8] = [
-    "Any", "Callable", "Dict", "List", "Optional", "Tuple", "Type", "Union",
-];
+use type_terms::{
+    BUILTIN_CLASSES, BUILTIN_FUNCTIONS, BUILTIN_TEXTS, TYPING_NAMES, exception_number,
+};
 
 /// The text of a name, or no bytes where the name is unknown.
 pub(crate) fn text_of(names: &Names, id: NameId) -> &[u8]
@@ -104,13 +34,22 @@ fn is_among(text: &[u8], names: &[&str]) -> bool
 pub(crate) fn is_builtin(text: &[u8]) -> bool
     ensures { result ≡ spec.is_builtin text.now }
 {
-    is_among(text, &PLAIN) || is_exception(text)
+    is_plain_builtin(text) || is_exception(text)
+}
+
+// Whether it is a builtin name that no exception has.
+fn is_plain_builtin(text: &[u8]) -> bool
+    ensures { result ≡ (has_name builtin_functions text.now || has_name builtin_classes text.now || has_name builtin_texts text.now) }
+{
+    is_among(text, &BUILTIN_FUNCTIONS)
+        || is_among(text, &BUILTIN_CLASSES)
+        || is_among(text, &BUILTIN_TEXTS)
 }
 
 pub(crate) fn is_typing(text: &[u8]) -> bool
     ensures { result ≡ spec.is_typing text.now }
 {
-    is_among(text, &TYPING)
+    is_among(text, &TYPING_NAMES)
 }
 
 pub(crate) fn is_object(text: &[u8]) -> bool
@@ -128,45 +67,5 @@ pub(crate) fn is_init(text: &[u8]) -> bool
 pub(crate) fn is_exception(text: &[u8]) -> bool
     ensures { result ≡ is_exception_class text.now }
 {
-    is_among(text, &EXCEPTIONS)
-}
-
-/// The place of an exception class among them.
-pub(crate) fn exception_number(text: &[u8]) -> Option<u32>
-    ensures { option_and_then (slice_get exception_names) result ≡ spec.exception_of text.now }
-{
-    let place = place_among(text, &EXCEPTIONS);
-    if place < EXCEPTIONS.len() {
-        Some(place as u32)
-    } else {
-        None
-    }
-}
-
-// The first place of a text, or the number of the texts.
-fn place_among(text: &[u8], names: &[&str]) -> usize
-    ensures { result ≡ position_or_len (bytes_eq text.now) (map (λ name. name.now) names.now) }
-{
-    for (place, name) in names.iter().enumerate() {
-        if text == name.as_bytes() {
-            return place;
-        }
-    }
-    names.len()
-}
-
-/// The exception class at a place.
-pub(crate) fn exception_at(number: u32) -> Option<&'static str>
-    ensures { option_map (λ name. name.now) result ≡ slice_get exception_names number }
-{
-    name_at(&EXCEPTIONS, number as usize)
-}
-
-fn name_at<'a>(names: &[&'a str], place: usize) -> Option<&'a str>
-    ensures { option_map (λ name. name.now) result ≡ slice_get (map (λ name. name.now) names.now) place }
-{
-    match names.get(place) {
-        Some(name) => Some(*name),
-        None => None,
-    }
+    exception_number(text).is_some()
 }

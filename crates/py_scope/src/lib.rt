@@ -26,8 +26,6 @@ mod scopes;
 mod scoping;
 mod tables;
 mod targets;
-#[cfg(test)]
-mod tests;
 mod uses;
 
 pub use chain::Chain;

@@ -3,7 +3,6 @@ ghost use Rattle.std.specs.Prelude.{◌≡◌, ◌++◌, length, option_map, sli
 ghost use Rattle.scope_rules.specs.NameLists.{has_name};
 ghost use Rattle.scope_rules.specs.Scoped as spec;
 
-use crate::builtins::exception_at;
 use crate::chain::Chain;
 use crate::classes::Classes;
 use crate::name_set::NameSet;
@@ -12,6 +11,7 @@ use place_ids::{ClassId, FunId, Id, NameId};
 use py_tree::NativeName;
 use std::alloc::AllocError;
 use std::marker::Model;
+use type_terms::exception_at;
 
 /// What the names of a module, of its functions and of its classes stand for.
 #[derive(Debug, Drop)]

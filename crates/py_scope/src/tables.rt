@@ -8,7 +8,7 @@ ghost use Rattle.scope_rules.specs.Tables as spec;
 ghost use Rattle.type_terms.specs.Exceptions.{exception_names};
 
 use crate::bodies::uses_of_fun;
-use crate::builtins::{exception_number, text_of};
+use crate::builtins::text_of;
 use crate::classes::Classes;
 use crate::first_values::put_first;
 use crate::kept_class::{KeptClass, class_at};
@@ -23,6 +23,7 @@ use place_ids::{NameId, Names, Sequence};
 use py_tree::{ClassDef, FunDef, Member, Stmt, StmtKind};
 use scope_rules::{Mention, MethodRow};
 use std::alloc::{AllocError, Global};
+use type_terms::exception_number;
 
 #[tactic(auto, using(std::proofs::Common::append_assoc))]
 fn uses_of_methods(members: &[Member], out: &mut Sequence<Mention>) -> Result<(), AllocError>

@@ -11,3 +11,4 @@ pub mod Rules
 pub mod Scoped
 pub mod Tables
 pub mod Uses
+pub mod WellFormed

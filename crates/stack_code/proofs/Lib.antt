@@ -5,5 +5,7 @@ pub mod Searching
 pub mod Ways
 pub mod Cuts
 pub mod Nearest
-pub mod Trees
+pub mod Painting
+pub mod Shortest
+pub mod Taking
 pub mod MaximalRuns

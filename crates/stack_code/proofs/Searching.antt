@@ -2,6 +2,12 @@
 use Rattle.std.proofs.Common.{◌≡◌, ◌≢◌, ℕ, suc, zero, ◌+◌, ◌-◌, ◌^◌, ◌<◌, ◌≤◌, Bool, true, false, cond, nat_eq, Option, Some, None, Result, Ok, Err, List, [], ◌∷◌, ◌++◌, length, slice_get, slice_set, replicate, ◌⊎◌, inl, inr, refl, sym, ap, subst, ◌∙◌, arith, length-append, length-set}
 use Rattle.std.proofs.lemmas.List.{length-replicate}
 use Rattle.std.specs.List.{All, Contains}
+use Rattle.std.specs.List.Sorted.{IsPermutation}
+use Rattle.std.proofs.lemmas.List.Sorted.{Contains-permutation, IsPermutation-sym}
+use Rattle.stack_code.specs.declared.code.Range.{Range}
+use Rattle.stack_code.specs.Handlers.{covers}
+use Rattle.stack_code.specs.RangeTrees.{uncovered}
+use Rattle.stack_code.proofs.Taking.{uncovered_among, uncovered_stays}
 use Rattle.std.proofs.lemmas.Bool.{cases_eq}
 use Rattle.std.proofs.lemmas.Bool.Decides.{nat_tests}
 use Rattle.std.proofs.lemmas.Option.{slice_get_within, slice_get-get_or, same_Some}
@@ -11,7 +17,7 @@ use Rattle.stack_code.specs.declared.code.Code.{Code}
 use Rattle.stack_code.specs.declared.depths.Reached.{Reached}
 use Rattle.stack_code.specs.Depths.{Gives, goes_on, jumps, HasDepth, begins, given, handles}
 use Rattle.stack_code.specs.Validity.{HasTwoDepths}
-use Rattle.stack_code.specs.Search.{Found, noted, with_depth, with_depths, go_on, ways, handlers, AreDepths}
+use Rattle.stack_code.specs.Search.{Found, noted, with_depth, with_depths, go_on, ways, handlers, handler_reached, AreDepths}
 use Rattle.stack_code.proofs.Effects.{pushes_one}
 use Rattle.stack_code.proofs.Lists.{get-set_same, get-set_other, blanks, blanks-set, blanks-replicate, replicate_blank}
 use Rattle.stack_code.proofs.Ways.{not_empty, first_in, later_in, ways_sound, ways_complete, IsHandled, handlers_sound, handlers_complete}
@@ -236,6 +242,15 @@ module _ (code : Code) where
     pub closed : (place depth : ℕ) → slice_get found.depths place ≡ Some (Some depth) → Contains found.waiting (record { place = place; depth = depth }) ⊎ IsClosed found (record { place = place; depth = depth })
     pub first : Has found (record { place = 0; depth = 0 })
 
+  -- the ranges that are left are the code's, and the handlers of the others have their depths
+  pub record IsPending (left : List Range) (found : Found) : Type 0 where
+    pub among : (range : Range) → Contains left range → Contains code.ranges range
+    pub followed : (range : Range) → Contains code.ranges range → Contains left range ⊎ Has found (handler_reached range)
+
+  pub pending_begins : (left : List Range) (found : Found) → IsPermutation code.ranges left → IsPending left found
+  pending_begins left found moved =
+      record { among = λ range c. Contains-permutation left code.ranges range (IsPermutation-sym code.ranges left moved) c; followed = λ range c. inl (Contains-permutation code.ranges left range moved c) }
+
   kept_none : (places : ℕ) → places ≡ length code.ops → IsKept (record { depths = replicate places None; waiting = [] })
   kept_none places e =
       record {
@@ -305,28 +320,57 @@ module _ (code : Code) where
   few_on : (found rest mid : Found) (r : Reached) → IsTaken found rest r → IsSearched found → IsGrown rest mid → blanks mid.depths ≤ length code.ops
   few_on found rest mid r t s g = omega (arith, g.fewer, s.few, ap blanks t.depths)
 
-  fits_handlers : (found rest mid : Found) (r : Reached) → IsTaken found rest r → IsSearched found → IsGrown rest mid → All (λ range. length code.ops + range.depth < 2 ^ 32 - 1) code.ranges → (x : Reached) → Contains (handlers code.ranges r.place) x → Fits mid x
-  fits_handlers found rest mid r t s g low x c =
-      fits_handler mid r.place r.depth (taken_has found rest r t s) low (few_on found rest mid r t s g) x (handlers_sound code.ranges r.place x c)
+  fits_handlers : (left : List Range) (found rest mid : Found) (r : Reached) → IsTaken found rest r → IsSearched found → IsPending left found → IsGrown rest mid → All (λ range. length code.ops + range.depth < 2 ^ 32 - 1) code.ranges → (x : Reached) → Contains (handlers left r.place) x → Fits mid x
+  fits_handlers left found rest mid r t s p g low x c =
+      let h = handlers_sound left r.place x c in
+      fits_handler mid r.place r.depth (taken_has found rest r t s) low (few_on found rest mid r t s g) x (record { range = h.range; has = p.among h.range h.has; over = h.over; is = h.is })
 
-  pub ranges_differ : (found rest mid : Found) (r : Reached) (rs : List Reached) → IsTaken found rest r → IsSearched found → IsGiven rs rest mid → All (λ range. length code.ops + range.depth < 2 ^ 32 - 1) code.ranges → (place : ℕ) → with_depths (handlers code.ranges r.place) mid ≡ Err place → HasTwoDepths code place
-  ranges_differ found rest mid r rs t s one low place e =
-      all_differ (handlers code.ranges r.place) mid place e one.kept (fits_handlers found rest mid r t s one.grown low)
+  pub ranges_differ : (left : List Range) (found rest mid : Found) (r : Reached) (rs : List Reached) → IsTaken found rest r → IsSearched found → IsPending left found → IsGiven rs rest mid → All (λ range. length code.ops + range.depth < 2 ^ 32 - 1) code.ranges → (place : ℕ) → with_depths (handlers left r.place) mid ≡ Err place → HasTwoDepths code place
+  ranges_differ left found rest mid r rs t s p one low place e =
+      all_differ (handlers left r.place) mid place e one.kept (fits_handlers left found rest mid r t s p one.grown low)
 
-  pub search_goes_on : (found rest mid new : Found) (r : Reached) (op : Op) → IsTaken found rest r → IsSearched found → slice_get code.ops r.place ≡ Some op → IsGiven (ways op r.place r.depth) rest mid → All (λ range. length code.ops + range.depth < 2 ^ 32 - 1) code.ranges → with_depths (handlers code.ranges r.place) mid ≡ Ok new → IsSearched new × (left_of new < left_of found)
-  search_goes_on found rest mid new r op t s stands one low e =
-      let two = all_given (handlers code.ranges r.place) mid new e one.kept (fits_handlers found rest mid r t s one.grown low) in
+  -- what was found before a place is taken is still there
+  has_on : (found rest new : Found) (r x : Reached) → IsTaken found rest r → IsGrown rest new → Has found x → Has new x
+  has_on found rest new r x t g h = has_grown rest new x g (subst (λ ds. x.place < length ds → slice_get ds x.place ≡ Some (Some x.depth)) (sym t.depths) h)
+
+  -- after a turn
+  pub record IsTurned (left : List Range) (found new : Found) : Type 0 where
+    pub searched : IsSearched new
+    pub pending : IsPending left new
+    pub less : left_of new < left_of found
+
+  pub search_goes_on : (left : List Range) (found rest mid new : Found) (r : Reached) (op : Op) → IsTaken found rest r → IsSearched found → IsPending left found → slice_get code.ops r.place ≡ Some op → IsGiven (ways op r.place r.depth) rest mid → All (λ range. length code.ops + range.depth < 2 ^ 32 - 1) code.ranges → with_depths (handlers left r.place) mid ≡ Ok new → IsTurned (uncovered left r.place) found new
+  search_goes_on left found rest mid new r op t s p stands one low e =
+      let two = all_given (handlers left r.place) mid new e one.kept (fits_handlers left found rest mid r t s p one.grown low) in
       let both = grown_on rest mid new one.grown two.grown in
-      let here : IsClosed new r = record { ways = λ o i x c. has_grown mid new x two.grown (one.has x (subst (λ p. Contains (Rattle.stack_code.specs.Search.ways p r.place r.depth) x) (same_Some o op (sym i ∙ stands)) c)); handlers = two.has } in (
-        record {
+      let over = λ (range : Range) (c : Contains left range) (o : covers range r.place ≡ true). two.has (handler_reached range) (handlers_complete left r.place range c o) in
+      let here : IsClosed new r = record { ways = λ o i x c. has_grown mid new x two.grown (one.has x (subst (λ w. Contains (Rattle.stack_code.specs.Search.ways w r.place r.depth) x) (same_Some o op (sym i ∙ stands)) c)); handlers = λ x c. handled both over x (handlers_sound code.ranges r.place x c) } in
+      record {
+        searched = record {
           kept = two.kept;
           few = few_on found rest new r t s both;
           closed = λ place depth i. closed_at both here place depth (both.new_waits place depth i);
           first = has_grown rest new (record { place = 0; depth = 0 }) both (subst (λ ds. 0 < length ds → slice_get ds 0 ≡ Some (Some 0)) (sym t.depths) s.first);
-        },
-        omega (arith, both.less, ap blanks t.depths, ap length t.waiting, length-append rest.waiting (r ∷ [])),
-      )
+        };
+        pending = record {
+          among = λ range c. p.among range (uncovered_among left r.place range c);
+          followed = λ range c. follow both over range (p.followed range c) (covers range r.place) refl;
+        };
+        less = omega (arith, both.less, ap blanks t.depths, ap length t.waiting, length-append rest.waiting (r ∷ []));
+      }
     where
+      handled : IsGrown rest new → ((range : Range) → Contains left range → covers range r.place ≡ true → Has new (handler_reached range)) → (x : Reached) → IsHandled code.ranges r.place x → Has new x
+      handled both over x h = subst (λ y. Has new y) h.is (go (p.followed h.range h.has))
+        where
+          go : Contains left h.range ⊎ Has found (handler_reached h.range) → Has new (handler_reached h.range)
+          go (inl c) = over h.range c h.over
+          go (inr k) = has_on found rest new r (handler_reached h.range) t both k
+
+      follow : IsGrown rest new → ((range : Range) → Contains left range → covers range r.place ≡ true → Has new (handler_reached range)) → (range : Range) → Contains left range ⊎ Has found (handler_reached range) → (b : Bool) → covers range r.place ≡ b → Contains (uncovered left r.place) range ⊎ Has new (handler_reached range)
+      follow both over range (inl c) true o = inr (over range c o)
+      follow both over range (inl c) false o = inl (uncovered_stays left r.place range c o)
+      follow both over range (inr k) b o = inr (has_on found rest new r (handler_reached range) t both k)
+
       closed_at : IsGrown rest new → IsClosed new r → (place depth : ℕ) → (slice_get rest.depths place ≡ Some (Some depth)) ⊎ Contains new.waiting (record { place = place; depth = depth }) → Contains new.waiting (record { place = place; depth = depth }) ⊎ IsClosed new (record { place = place; depth = depth })
       closed_at both here place depth (inr c) = inl c
       closed_at both here place depth (inl i) = old (s.closed place depth (sym (ap (λ ds. slice_get ds place) t.depths) ∙ i))

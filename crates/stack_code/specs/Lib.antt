@@ -4,5 +4,6 @@ pub mod Depths
 pub mod Validity
 pub mod Search
 pub mod RangeTrees
+pub mod Painting
 pub mod Blocks
 pub mod Runs

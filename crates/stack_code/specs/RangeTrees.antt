@@ -1,8 +1,18 @@
 -- Ranges in a tree: which they are, and that each branch says between which places its ranges lie.
-use Rattle.std.specs.Prelude.{ℕ, ◌≤◌, List, [], ◌∷◌, ◌++◌}
+use Rattle.std.specs.Prelude.{ℕ, ◌≤◌, cond, List, [], ◌∷◌, ◌++◌}
 use Rattle.std.specs.List.{All}
 use Rattle.stack_code.specs.declared.code.Range.{Range}
 use Rattle.stack_code.specs.declared.range_tree.RangeTree.{RangeTree, Empty, Leaf, Branch'}
+use Rattle.stack_code.specs.Handlers.{covers}
+
+-- the ranges that cover a place, and those that don't
+abbrev pub covering : List Range → ℕ → List Range
+covering [] place = []
+covering (range ∷ ranges) place = cond (covers range place) (range ∷ covering ranges place) (covering ranges place)
+
+abbrev pub uncovered : List Range → ℕ → List Range
+uncovered [] place = []
+uncovered (range ∷ ranges) place = cond (covers range place) (uncovered ranges place) (range ∷ uncovered ranges place)
 
 abbrev pub LiesBetween : ℕ → ℕ → Range → Type 0
 LiesBetween first past range = (first ≤ range.first) × (range.past ≤ past)

@@ -42,6 +42,10 @@ ways op place depth =
     (goal_reached (goal_of op) (depth_at_goal op depth)))
     []
 
+-- what a range gives its handler
+abbrev pub handler_reached : Range → Reached
+handler_reached range = record { place = range.goal; depth = range.depth }
+
 -- the handlers of the ranges that cover a place
 abbrev pub handlers : List Range → ℕ → List Reached
 handlers [] place = []

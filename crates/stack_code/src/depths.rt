@@ -1,10 +1,11 @@
 //! The search for the depths of code.
-ghost use Rattle.std.specs.Prelude.{◌≡◌, ℕ, ◌+◌, ◌-◌, ◌^◌, ◌<◌, ◌≤◌, [], ◌∷◌, ◌++◌, None, Ok, Err, length, slice_get, replicate, IfOk, OnOk, MatchOption};
+ghost use Rattle.std.specs.Prelude.{◌≡◌, ℕ, ◌+◌, ◌-◌, ◌^◌, ◌<◌, ◌≤◌, [], ◌∷◌, ◌++◌, None, Ok, Err, length, map, slice_get, replicate, IfOk, OnOk, MatchOption};
 ghost use Rattle.std.specs.List.{All};
+ghost use Rattle.std.specs.List.Sorted.{IsPermutation};
 ghost use Rattle.stack_code.specs.Depths.{HasDepth};
 ghost use Rattle.stack_code.specs.Validity.{HasTwoDepths};
-ghost use Rattle.stack_code.specs.RangeTrees.{ranges_of, IsBounded};
-ghost use Rattle.stack_code.specs.Search.{with_depth, with_depths, ways, handlers, AreDepths};
+ghost use Rattle.stack_code.specs.RangeTrees.{ranges_of, uncovered, IsBounded};
+ghost use Rattle.stack_code.specs.Search.{with_depth, with_depths, ways, handlers, handler_reached, AreDepths};
 
 use crate::range_tree::{RangeTree, tree_of};
 use crate::{Code, Op, Range};
@@ -120,38 +121,47 @@ impl Search {
         }
     }
 
-    // Gives the handlers of the ranges that cover a place their depths.
-    fn follow_ranges(&mut self, ranges: &RangeTree, place: u32) -> Result<(), Stop>
-        requires { IsBounded ranges.now }
-        ensures given { OnOk result (with_depths (handlers (ranges_of ranges.now) place) self.old ≡ Ok self.new) }
-        ensures differs { (at : ℕ) → result ≡ Err (Stop.Differs at) → with_depths (handlers (ranges_of ranges.now) place) self.old ≡ Err at }
+    // Gives the handlers of the ranges that cover a place their depths, and takes those ranges out of the tree: their handlers want no depth again.
+    fn follow_ranges(
+        &mut self,
+        alloc: Global,
+        ranges: &mut RangeTree,
+        place: u32,
+    ) -> Result<(), Stop>
+        requires { IsBounded ranges.old }
+        ensures given { OnOk result (with_depths (handlers (ranges_of ranges.old) place) self.old ≡ Ok self.new) }
+        ensures left { OnOk result (ranges_of ranges.new ≡ uncovered (ranges_of ranges.old) place) }
+        ensures bounded { OnOk result (IsBounded ranges.new) }
+        ensures differs { (at : ℕ) → result ≡ Err (Stop.Differs at) → with_depths (handlers (ranges_of ranges.old) place) self.old ≡ Err at }
     {
-        match ranges {
-            RangeTree::Empty => Ok(()),
-            RangeTree::Leaf(range) => self.follow_range(range, place),
-            RangeTree::Branch(first, past, left, right) => {
-                if *first <= place && place < *past {
-                    self.follow_ranges(left, place)?;
-                    self.follow_ranges(right, place)?;
-                }
-                Ok(())
-            }
-        }
+        let mut taken = Vec::new(alloc);
+        ranges.take(place, &mut taken)?;
+        self.give_handlers(taken.as_slice())
     }
 
-    // Gives the handler of a range its depth, if the range covers a place.
-    fn follow_range(&mut self, range: &Range, place: u32) -> Result<(), Stop>
-        ensures given { OnOk result (with_depths (handlers (range.now ∷ []) place) self.old ≡ Ok self.new) }
-        ensures differs { (at : ℕ) → result ≡ Err (Stop.Differs at) → with_depths (handlers (range.now ∷ []) place) self.old ≡ Err at }
+    // Gives the handlers of ranges their depths.
+    fn give_handlers(&mut self, ranges: &[Range]) -> Result<(), Stop>
+        ensures given { OnOk result (with_depths (map handler_reached ranges.now) self.old ≡ Ok self.new) }
+        ensures differs { (at : ℕ) → result ≡ Err (Stop.Differs at) → with_depths (map handler_reached ranges.now) self.old ≡ Err at }
     {
-        if !range.covers(place) {
-            return Ok(());
+        for range in ranges {
+            self.give(Reached {
+                place: range.goal,
+                depth: range.depth,
+            })?;
         }
-        self.give(Reached {
-            place: range.goal,
-            depth: range.depth,
-        })
+        Ok(())
     }
+}
+
+// The ranges in a tree, by their first places.
+fn tree_by_first(alloc: Global, ranges: &[Range]) -> Result<RangeTree, AllocError>
+    ensures same { IfOk result (λ tree. IsPermutation ranges.now (ranges_of tree)) }
+    ensures bounded { IfOk result (λ tree. IsBounded tree) }
+{
+    let mut sorted = Vec::from_slice(alloc, ranges)?;
+    sorted.sort_by_key(|range| range.first)?;
+    tree_of(alloc, sorted.as_slice())
 }
 
 /// The depth of each place that has one.
@@ -161,13 +171,12 @@ pub fn depths_of(alloc: Global, code: &Code) -> Result<Items<Option<u32>>, Stop>
     ensures depths { IfOk result (λ depths. AreDepths code.now depths) }
     ensures differs { (place : ℕ) → result ≡ Err (Stop.Differs place) → HasTwoDepths code.now place }
 {
-    let tree = tree_of(alloc, code.ranges.as_slice())?;
-    let ranges = &tree;
+    let mut ranges = tree_by_first(alloc, code.ranges.as_slice())?;
     let mut search = Search::new(alloc, code.ops.len())?;
     search.give(Reached { place: 0, depth: 0 })?;
     while let Some(reached) = search.next() {
         search.follow_op(&code.ops.as_slice()[reached.place as usize], reached)?;
-        search.follow_ranges(ranges, reached.place)?;
+        search.follow_ranges(alloc, &mut ranges, reached.place)?;
     }
     let Search { depths, .. } = search;
     Ok(depths)

@@ -1,9 +1,10 @@
 -- The chains that are written out are those that the rows of the classes give.
-use Rattle.std.proofs.Common.{◌≡◌, ℕ, Bool, true, false, ◌&&◌, List, [], ◌∷◌, ◌||◌, map, if◌then◌else◌, refl, sym, ap, ◌∙◌, true≢false}
-use Rattle.std.specs.List.{list_any, list_all}
+use Rattle.std.proofs.Common.{◌≡◌, ℕ, ◌<◌, ◌≤◌, Bool, true, false, cond, ◌&&◌, List, [], ◌∷◌, ◌||◌, Option, Some, None, length, map, nat_lt, if◌then◌else◌, refl, sym, ap, ◌∙◌, arith, true≢false}
+use Rattle.std.proofs.lemmas.Bool.Decides.{nat_tests}
+use Rattle.std.specs.List.{list_any, list_all, position, position_or_len}
 use Rattle.std.specs.Str.{bytes_eq}
 use Rattle.std.specs.Cmp.Lexicographic.{bytes_decides, pointwise, pointwise_decides}
-use Rattle.type_terms.specs.Exceptions.{exception_names, is_exception, exception_chain, first_chain}
+use Rattle.type_terms.specs.Exceptions.{exception_names, is_exception, exception_chain, first_chain, heads}
 
 -- the classes whose chains are given, and whether each chain is its class's
 abbrev classes_of : List (List (List ℕ)) → List (List ℕ)
@@ -43,3 +44,21 @@ chain_found chains name right all =
     twice : (b : Bool) (xs : List (List ℕ)) → (if b then (if b then xs else []) else []) ≡ (if b then xs else [])
     twice true xs = refl
     twice false xs = refl
+
+-- each chain begins with its class
+pub place_found : (name : List ℕ) → position_or_len (heads name) all_chains ≡ position_or_len (bytes_eq name) exception_names
+place_found name = refl
+
+pub placed_within : (p : List ℕ → Bool) (names : List (List ℕ)) (place : ℕ) → place ≡ position_or_len p names → place < length names → Some place ≡ position p names
+placed_within p names place e within = go (nat_lt (position_or_len p names) (length names)) refl
+  where
+    go : (b : Bool) → nat_lt (position_or_len p names) (length names) ≡ b → Some place ≡ cond b (Some (position_or_len p names)) None
+    go true t = ap Some e
+    go false t = let k : nat_lt (position_or_len p names) (length names) ≡ true = grind (arith, nat_tests) in cc
+
+pub placed_past : (p : List ℕ → Bool) (names : List (List ℕ)) (place : ℕ) → place ≡ position_or_len p names → length names ≤ place → None ≡ position p names
+placed_past p names place e past = go (nat_lt (position_or_len p names) (length names)) refl
+  where
+    go : (b : Bool) → nat_lt (position_or_len p names) (length names) ≡ b → None ≡ cond b (Some (position_or_len p names)) None
+    go true t = let k : nat_lt (position_or_len p names) (length names) ≡ false = grind (arith, nat_tests) in cc
+    go false t = refl

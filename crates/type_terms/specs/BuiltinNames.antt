@@ -2,7 +2,7 @@
 use Rattle.std.specs.Prelude.{ℕ, Bool, List, [], ◌∷◌, ◌++◌, ◌||◌, codes, map}
 use Rattle.std.specs.List.{list_any}
 use Rattle.std.specs.Str.{bytes_eq}
-use Rattle.type_terms.specs.declared.names.TheConstants.{BUILTIN_FUNCTIONS, BUILTIN_CLASSES, BUILTIN_TEXTS}
+use Rattle.type_terms.specs.declared.names.TheConstants.{BUILTIN_FUNCTIONS, BUILTIN_CLASSES, BUILTIN_TEXTS, TYPING_NAMES}
 use Rattle.type_terms.specs.Exceptions.{exception_names, is_exception}
 
 abbrev pub has_name : List (List ℕ) → List ℕ → Bool
@@ -19,8 +19,7 @@ abbrev pub builtin_texts : List (List ℕ)
 builtin_texts = map (λ name. name.now) BUILTIN_TEXTS
 
 abbrev pub typing_names : List (List ℕ)
-typing_names =
-    codes "Any" ∷ codes "Callable" ∷ codes "Dict" ∷ codes "List" ∷ codes "Optional" ∷ codes "Tuple" ∷ codes "Type" ∷ codes "Union" ∷ []
+typing_names = map (λ name. name.now) TYPING_NAMES
 
 -- the names that no class of a module has
 abbrev pub taken_names : List (List ℕ)

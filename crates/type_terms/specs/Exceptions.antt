@@ -39,6 +39,11 @@ climb (row ∷ rows) name = name ∷ unwrap_or (option_map (λ above. climb rows
 abbrev pub exception_chain : List ℕ → List (List ℕ)
 exception_chain name = if is_exception name then climb exception_rows name else []
 
+-- the class that a chain is of
+abbrev pub class_of : List (List ℕ) → List ℕ
+class_of [] = []
+class_of (first ∷ above) = first
+
 -- whether a chain is that of a class
 abbrev pub heads : List ℕ → List (List ℕ) → Bool
 heads name [] = false

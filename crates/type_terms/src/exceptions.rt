@@ -1,7 +1,8 @@
 //! The builtin exception classes.
-ghost use Rattle.std.specs.Prelude.{◌≡◌, map};
+ghost use Rattle.std.specs.Prelude.{◌≡◌, map, option_map, slice_get};
+ghost use Rattle.std.specs.List.{position, position_or_len};
 ghost use Rattle.std.specs.Str.{bytes_eq};
-ghost use Rattle.type_terms.specs.Exceptions.{exception_chain, exception_names, first_chain, heads};
+ghost use Rattle.type_terms.specs.Exceptions.{class_of, exception_chain, exception_names, first_chain, heads};
 
 // Each class with the classes above it, from the nearest on.
 static CHAINS: [&[&str]; 34] = [
@@ -121,5 +122,54 @@ fn is_chain_of(name: &[u8], chain: &[&str]) -> bool
     match chain {
         [first, ..] => name == first.as_bytes(),
         [] => false,
+    }
+}
+
+/// The place of a builtin exception class among them.
+pub fn exception_number(name: &[u8]) -> Option<u32>
+    ensures { result ≡ position (bytes_eq name.now) exception_names }
+{
+    let place = place_among(name, &CHAINS);
+    if place < CHAINS.len() {
+        Some(place as u32)
+    } else {
+        None
+    }
+}
+
+// The first place of a class's chain, or the number of the chains.
+fn place_among(name: &[u8], chains: &[&[&str]]) -> usize
+    ensures { result ≡ position_or_len (heads name.now) (map (λ chain. map (λ class. class.now) chain.now) chains.now) }
+{
+    for (place, chain) in chains.iter().enumerate() {
+        if is_chain_of(name, chain) {
+            return place;
+        }
+    }
+    chains.len()
+}
+
+/// The builtin exception class at a place among them.
+pub fn exception_at(number: u32) -> Option<&'static str>
+    ensures { option_map (λ class. class.now) result ≡ slice_get exception_names number }
+{
+    class_at(&CHAINS, number as usize)
+}
+
+fn class_at<'a>(chains: &'a [&'a [&'a str]], place: usize) -> Option<&'a str>
+    ensures { option_map (λ class. class.now) result ≡ slice_get (map (λ chain. class_of (map (λ class. class.now) chain.now)) chains.now) place }
+{
+    match chains.get(place) {
+        Some(chain) => Some(first_of(chain)),
+        None => None,
+    }
+}
+
+fn first_of<'a>(chain: &[&'a str]) -> &'a str
+    ensures { result.now ≡ class_of (map (λ class. class.now) chain.now) }
+{
+    match chain {
+        [first, ..] => first,
+        [] => "",
     }
 }

@@ -22,8 +22,8 @@ mod tests;
 mod text;
 
 pub use code::term_code;
-pub use exceptions::{exception_chain, exception_chains};
-pub use names::{BUILTIN_CLASSES, BUILTIN_FUNCTIONS, BUILTIN_TEXTS};
+pub use exceptions::{exception_at, exception_chain, exception_chains, exception_number};
+pub use names::{BUILTIN_CLASSES, BUILTIN_FUNCTIONS, BUILTIN_TEXTS, TYPING_NAMES};
 pub use normal_form::normal;
 pub use stub::{Stub, StubClass, StubFun, StubName, StubParam};
 pub use stub_set::StubSet;

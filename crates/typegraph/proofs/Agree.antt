@@ -7,7 +7,7 @@ use lib.Pointwise.{pointwise_decides}
 use Rattle.typegraph.specs.declared.goals.Binding.{Binding}
 use Rattle.typegraph.specs.Maps.{look, IsOnce, IsRising}
 use Rattle.typegraph.specs.Keys.{binding_eq}
-use Rattle.typegraph.proofs.Looks.{equal, equal_as, first_binding, binding_cases, look_finds, look_once}
+use Rattle.typegraph.proofs.Looks.{equal, equal_as, binding_cases, look_finds}
 
 pub all_taken : {X : Type 0} (P : X → Type 0) (xs : List X) (i : ℕ) → i ≡ length xs → All P (take i xs) → All P xs
 all_taken P xs i e h = subst (λ ys. All P ys) (ap (λ n. take n xs) e ∙ take-length xs) h

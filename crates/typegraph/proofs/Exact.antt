@@ -1,5 +1,5 @@
 -- Facts that are found equal are the same.
-use Rattle.std.proofs.Common.{rules, Decides, ◌≡◌, ◌↔◌, ℕ, ◌<◌, length, slice_get, Result, Ok, Err, Bool, true, false, ◌&&◌, List, [], ◌∷◌, ◌++◌, IsTrue, refl, sym, ap, subst, ◌∙◌, nat_eq}
+use Rattle.std.proofs.Common.{◌≡◌, ◌↔◌, ℕ, ◌<◌, length, slice_get, Result, Ok, Err, Bool, true, false, ◌&&◌, List, IsTrue, refl, sym, ap, subst, ◌∙◌, nat_eq}
 use Rattle.std.specs.List.{Contains, list_any}
 use Rattle.std.specs.Cmp.{unsigned_Decides}
 use Rattle.std.specs.Cmp.Lexicographic.{pointwise}

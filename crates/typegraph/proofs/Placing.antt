@@ -1,13 +1,13 @@
 -- Where the facts of a shape stand in a row that grows.
-use Rattle.std.proofs.Common.{◌≡◌, ℕ, suc, zero, ◌<◌, Bool, true, false, cond, if◌then◌else◌, Option, Some, None, List, [], ◌∷◌, ◌++◌, length, get_or, slice_get, slice_set, position, map, refl, sym, ap, subst, ◌∙◌, ◌+◌, length-append, arith, nat_eq, ◌⊎◌, inl, inr, append_assoc}
-use Rattle.std.specs.List.{Contains, filter}
+use Rattle.std.proofs.Common.{◌≡◌, ℕ, suc, zero, ◌<◌, Bool, true, false, cond, if◌then◌else◌, Some, None, List, [], ◌∷◌, ◌++◌, length, get_or, slice_get, slice_set, position, map, refl, sym, ap, subst, ◌∙◌, ◌+◌, length-append, arith, nat_eq, ◌⊎◌, inl, inr}
+use Rattle.std.specs.List.{Contains}
 use Rattle.std.proofs.lemmas.List.Quantifiers.{position-Some}
 use Rattle.std.proofs.lemmas.Option.{slice_get-get_or, get_or_from_slice_get, slice_get_within}
 use Rattle.graph_walks.proofs.Lists.{got}
 use Rattle.flow_graph.proofs.Valid.{pushed_at}
 use Rattle.typegraph.specs.declared.fact.Fact.{Fact}
-use Rattle.typegraph.specs.Graphs.{facts_of, ArePlacesOf, push_fact}
-use Rattle.typegraph.specs.Kept.{PlaceTables, list_in, places_in, IsFirstAt}
+use Rattle.typegraph.specs.Graphs.{facts_of, ArePlacesOf}
+use Rattle.typegraph.specs.Kept.{list_in, IsFirstAt}
 use Rattle.typegraph.proofs.Looks.{equal, equal_as}
 
 pub first_found : (list : List ℕ) (number place : ℕ) → position (nat_eq number) list ≡ Some place → IsFirstAt list number place

@@ -1,5 +1,5 @@
 -- Bindings as a map from variables to shapes.
-use Rattle.std.specs.Prelude.{◌≡◌, ◌≢◌, ℕ, ◌<◌, ◌≤◌, Bool, true, false, cond, Option, Some, None, List, [], ◌∷◌, ◌++◌, nat_eq, ◌⊎◌, ◌↔◌}
+use Rattle.std.specs.Prelude.{◌≡◌, ◌≢◌, ℕ, ◌<◌, Bool, true, false, cond, Option, Some, None, List, [], ◌∷◌, ◌++◌, nat_eq, ◌⊎◌, ◌↔◌}
 use Rattle.std.specs.List.{All, AllPairs, Contains}
 use Rattle.typegraph.specs.declared.goals.Binding.{Binding}
 

@@ -1,6 +1,7 @@
 use Rattle.std.proofs.Common.{◌+◌, ◌*◌, map, take}
 use Rattle.std.specs.List.{AllZip}
 use Rattle.type_terms.specs.View.{term_view}
+use Rattle.abstract_shapes.specs.Kept.{AreKept}
 use Rattle.abstract_shapes.specs.Numbering.{structures}
 use Rattle.abstract_shapes.specs.Printed.{ArePlaces, IsShapeType, IsPrinted}
 use Rattle.abstract_shapes.specs.Scenes.{scene_from, shapes_under}
@@ -34,8 +35,13 @@ abbrev pub decreases-tuple_type : goal.decreases-tuple_type
 decreases-tuple_type l = l.depth * 8 + 3
 
 abbrev pub invariant-types_of-loop-id : goal.invariant-types_of-loop-id
-invariant-types_of-loop-id l =
-    AllZip (IsShapeType (scene_from l.sources) (IsPrinted (scene_from l.sources) l.depth)) (shapes_under (structures l.sources.shapes.now) (take l.id-index l.ids)) (map term_view l.types.items)
+invariant-types_of-loop-id l = record {
+  made : AllZip (IsShapeType (scene_from l.sources) (IsPrinted (scene_from l.sources) l.depth)) (shapes_under (structures l.sources.shapes.now) (take l.id-index l.ids)) (map term_view l.types.items);
+  kept : AreKept (scene_from l.sources) l.kept;
+}
 
 abbrev pub invariant-display_type-loop-place : goal.invariant-display_type-loop-place
-invariant-display_type-loop-place l = ArePlaces (scene_from l.sources) (IsPrinted (scene_from l.sources) l.depth) l.site 0 l.place (map term_view l.types.items)
+invariant-display_type-loop-place l = record {
+  made : ArePlaces (scene_from l.sources) (IsPrinted (scene_from l.sources) l.depth) l.site 0 l.place (map term_view l.types.items);
+  kept : AreKept (scene_from l.sources) l.kept;
+}

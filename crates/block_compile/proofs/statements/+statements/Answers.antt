@@ -1,6 +1,6 @@
 -- The pieces of statements come one after another, by one lemma for each way to put them together.
 use Rattle.std.proofs.lemmas.Result.{on_ok_weaker, IfOk-weaker}
-use Rattle.std.proofs.Common.{◌≡◌, ℕ, false, length, rules, Some, None, option_map, ◌+◌, ◌<◌, List, drop, sym, ap, subst, ◌∙◌, arith}
+use Rattle.std.proofs.Common.{◌≡◌, ℕ, false, length, Some, None, option_map, ◌+◌, ◌<◌, List, drop, sym, ap, subst, ◌∙◌}
 use Rattle.std.proofs.Math.ListN.{drop_of_length-le}
 use Rattle.py_tree.specs.Tree as tree
 use Rattle.py_tree.specs.Tree.{Stmts, Handlers, statement}
@@ -10,7 +10,6 @@ use Rattle.py_tree.specs.declared.statement.Stmt as rust_stmt
 use Rattle.block_compile.specs.declared.place.Place as rust_place
 use Rattle.py_tree.specs.declared.statement.Arm.{out-Arm}
 use Rattle.py_tree.specs.declared.statement.Handler.{out-Handler}
-use Rattle.py_tree.specs.declared.statement.Stmt.{out-Stmt}
 use Rattle.py_tree.specs.View.{Arm, Handler, expr_view, stmt_view, stmt_kind_view, stmts_view, arm_view, arms_view, handler_view, handlers_view}
 use Rattle.stack_code.specs.declared.op.Op.TheVariants as op
 use Rattle.tree_code.specs.Expressions.{value, put}

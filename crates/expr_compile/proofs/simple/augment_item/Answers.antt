@@ -1,18 +1,11 @@
 -- The pieces are put one after another.
-use Rattle.std.proofs.Common.{◌≡◌, ◌∷◌, [], ◌++◌, ◌+◌, ◌-◌, OnOk, ℕ, suc, List, drop, sym, ap, subst, ◌∙◌, arith}
-use Rattle.std.specs.Prelude.{option_map}
-use Rattle.py_tree.specs.Tree.{site_of}
-use Rattle.py_tree.specs.View.{expr_view, exprs_view}
+use Rattle.std.proofs.Common.{◌-◌, ℕ, List}
+use Rattle.py_tree.specs.View.{expr_view}
 use Rattle.stack_code.specs.declared.op.Op.TheVariants as op
-use Rattle.tree_code.specs.Pieces.{Labels, one, ◌⨾◌, over}
-use Rattle.tree_code.specs.Names.{load, store}
-use Rattle.tree_code.specs.Expressions.{value, parts, count, put, puts}
-use Rattle.tree_code.specs.Statements.{dropped, put_all}
-use Rattle.expr_compile.specs.Emitted.{with_piece, with_instr, with_aim}
-use Rattle.expr_compile.specs.Growth.{Grows}
-use Rattle.expr_compile.proofs.Pieces.{Sized, sized_one, grows_one, grows_then, grows_last, grows_over, grows_round, opened_within, grown_within}
-use Rattle.expr_compile.proofs.Rounds.{left_at, put_all_more}
-use Rattle.expr_compile.proofs.Sizes.{sized_value, sized_put, sized_puts, sized_parts, sized_dropped, sized_failure, count_view}
+use Rattle.tree_code.specs.Pieces.{one, ◌⨾◌}
+use Rattle.tree_code.specs.Expressions.{value}
+use Rattle.expr_compile.proofs.Pieces.{sized_one, grows_one, grows_then}
+use Rattle.expr_compile.proofs.Sizes.{sized_value}
 use Rattle.expr_compile.proofs.simple.augment_item.Goals as goal
 
 pub returns : goal.returns

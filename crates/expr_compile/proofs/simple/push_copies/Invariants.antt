@@ -1,8 +1,7 @@
-use Rattle.std.proofs.Common.{◌≡◌, ◌∷◌, [], ◌++◌, drop, map}
-use Rattle.py_tree.specs.View.{expr_view, exprs_view, import_view, from_view}
+use Rattle.std.proofs.Common.{◌≡◌, ◌∷◌, [], ◌++◌, drop}
+use Rattle.py_tree.specs.View.{exprs_view}
 use Rattle.tree_code.specs.Pieces.{Labels}
-use Rattle.tree_code.specs.Expressions.{parts, puts}
-use Rattle.tree_code.specs.Statements.{imports, froms, put_all}
+use Rattle.tree_code.specs.Statements.{put_all}
 use Rattle.expr_compile.specs.Emitted.{with_piece}
 use Rattle.expr_compile.proofs.simple.push_copies.Given as goal
 

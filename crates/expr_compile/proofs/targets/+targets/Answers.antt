@@ -1,18 +1,14 @@
 -- The pieces are put one after another.
-use Rattle.std.proofs.Common.{◌≡◌, ◌∷◌, [], ◌++◌, ◌+◌, ◌-◌, OnOk, ℕ, suc, List, drop, sym, ap, subst, ◌∙◌, arith}
-use Rattle.std.specs.Prelude.{option_map}
-use Rattle.py_tree.specs.Tree.{site_of}
+use Rattle.std.proofs.Common.{◌+◌, ◌-◌, OnOk, ℕ, List, drop, sym, ap, subst, ◌∙◌}
 use Rattle.py_tree.specs.View.{expr_view, exprs_view}
 use Rattle.stack_code.specs.declared.op.Op.TheVariants as op
-use Rattle.tree_code.specs.Pieces.{Piece, Labels, one, ◌⨾◌, over}
-use Rattle.tree_code.specs.Names.{load, store}
+use Rattle.tree_code.specs.Pieces.{Piece, one, ◌⨾◌}
 use Rattle.tree_code.specs.Expressions.{value, parts, count, put, puts}
-use Rattle.tree_code.specs.Statements.{dropped, put_all}
-use Rattle.expr_compile.specs.Emitted.{with_piece, with_instr, with_aim}
+use Rattle.expr_compile.specs.Emitted.{with_piece}
 use Rattle.expr_compile.specs.Growth.{Grows}
-use Rattle.expr_compile.proofs.Pieces.{Sized, sized_one, grows_one, grows_then, grows_last, grows_over, grows_round, opened_within, grown_within}
-use Rattle.expr_compile.proofs.Rounds.{left_at, put_all_more}
-use Rattle.expr_compile.proofs.Sizes.{sized_value, sized_put, sized_puts, sized_parts, sized_dropped, sized_failure, count_view}
+use Rattle.expr_compile.proofs.Pieces.{grows_one, grows_then, grows_round}
+use Rattle.expr_compile.proofs.Rounds.{left_at}
+use Rattle.expr_compile.proofs.Sizes.{sized_put, sized_puts, sized_parts, count_view}
 use Rattle.expr_compile.proofs.Apart.{put_apart}
 use Rattle.expr_compile.proofs.targets.+targets.Goals as goal
 

@@ -1,10 +1,7 @@
-use Rattle.std.proofs.Common.{◌≡◌, ◌∷◌, [], ◌++◌, drop, map}
-use Rattle.py_tree.specs.View.{expr_view, exprs_view, import_view, from_view}
+use Rattle.std.proofs.Common.{◌≡◌}
 use Rattle.tree_code.specs.Pieces.{Labels}
-use Rattle.tree_code.specs.Expressions.{parts, puts}
-use Rattle.tree_code.specs.Statements.{imports, froms, put_all}
+use Rattle.tree_code.specs.Expressions.{parts}
 use Rattle.expr_compile.specs.Emitted.{with_piece}
-use Rattle.expr_compile.specs.NamesOf.{locals_in}
 use Rattle.expr_compile.proofs.targets.push_parts.Given as goal
 
 abbrev pub invariant-loop-part : goal.invariant-loop-part

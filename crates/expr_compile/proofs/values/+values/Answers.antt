@@ -1,10 +1,10 @@
 -- Each function puts its pieces one after another.
-use Rattle.std.proofs.Common.{◌≡◌, ◌∷◌, OnOk, ℕ, ◌+◌, Option, List, drop, sym, ap, subst, ◌∙◌, arith, rules}
+use Rattle.std.proofs.Common.{◌≡◌, OnOk, ℕ, ◌+◌, Option, List, drop, sym, ap, subst, ◌∙◌}
 use Rattle.py_tree.specs.Tree.{Expr, Exprs, Pairs}
 use Rattle.py_tree.specs.View.{Pair, expr_view, exprs_view, arg_view, args_view, bound_view, pairs_view}
 use Rattle.stack_code.specs.declared.op.Op.{Op}
 use Rattle.stack_code.specs.declared.op.Op.TheVariants as op
-use Rattle.tree_code.specs.Pieces.{Labels, one, ◌⨾◌, over, fork}
+use Rattle.tree_code.specs.Pieces.{one, ◌⨾◌, over, fork}
 use Rattle.tree_code.specs.Expressions.{value, values, bound_value, arguments, pairs, count, pair_count, positionals, keywords}
 use Rattle.expr_compile.specs.Emitted.{with_piece, with_instr, with_aim}
 use Rattle.expr_compile.specs.Growth.{Grows, keeping}

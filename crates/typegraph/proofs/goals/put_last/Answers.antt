@@ -1,4 +1,4 @@
-use Rattle.std.proofs.Common.{◌<◌, ◌∙◌, sym, subst}
+use Rattle.std.proofs.Common.{◌<◌, subst}
 use Rattle.std.specs.List.{All, Contains}
 use Rattle.typegraph.specs.Maps.{last}
 use Rattle.typegraph.proofs.Joins.{put_stands}

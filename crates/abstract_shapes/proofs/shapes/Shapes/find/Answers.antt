@@ -1,15 +1,16 @@
-use Rattle.std.proofs.Common.{◌≡◌, ◌∙◌, ap, sym, subst, length, slice_get, Some, None}
+use Rattle.std.proofs.Common.{◌≡◌, ◌∙◌, ap, sym, subst, length, slice_get, position, Some, false}
+use Rattle.std.specs.List.{list_any}
 use Rattle.abstract_shapes.specs.Numbering.{structures, IsThere}
-use Rattle.abstract_shapes.specs.Same.{place_among}
+use Rattle.abstract_shapes.specs.Same.{same_shape}
 use Rattle.abstract_shapes.proofs.NumberLemmas.{found, not_found}
 use Rattle.abstract_shapes.proofs.shapes.Shapes.find.Goals as goal
 
-pub returns-in-Some-clause-found : goal.returns-in-Some-clause-found
-returns-in-Some-clause-found c =
-    let h : place_among c.args.shape.now c.self.inside.rows.items ≡ Some c.in-Some.place = cc in
-    rw (← c.self.view_is) (ap (slice_get (structures c.self.inside.rows.items)) c.new.ensures ∙ found c.self.inside.rows.items c.self.invariant c.args.shape.now c.in-Some.place h)
+pub returns-clause-found : goal.returns-clause-found
+returns-clause-found c =
+    let h : position (same_shape c.args.shape.now) c.self.inside.rows.keys ≡ Some c.in_ok-place.place = sym c.in_ok-place.ensures.index in
+    rw (← c.self.view_is) (ap (slice_get (structures c.self.inside.rows.keys)) c.new.ensures ∙ found c.self.inside.rows.keys c.self.invariant c.args.shape.now c.in_ok-place.place h)
 
-pub returns-in-None-clause-none : goal.returns-in-None-clause-none
-returns-in-None-clause-none c = λ e there.
-    let h : place_among c.args.shape.now c.self.inside.rows.items ≡ None = cc in
-    rw (← c.self.view_is) (not_found c.self.inside.rows.items c.self.invariant c.args.shape.now (subst (λ t. IsThere (length t) c.args.shape.now) (sym c.self.view_is) there) h)
+pub returns-in_err-place-clause-none : goal.returns-in_err-place-clause-none
+returns-in_err-place-clause-none c = λ e there.
+    let h : list_any (same_shape c.args.shape.now) c.self.inside.rows.keys ≡ false = sym c.in_err-place.ensures.found in
+    rw (← c.self.view_is) (not_found c.self.inside.rows.keys c.self.invariant c.args.shape.now (subst (λ t. IsThere (length t) c.args.shape.now) (sym c.self.view_is) there) h)

@@ -1,12 +1,15 @@
-use Rattle.std.proofs.Common.{◌≡◌, ◌∙◌, ap, subst, get_or, length, arith}
+use Rattle.std.proofs.Common.{◌∙◌, ap, Some, None}
 use Rattle.abstract_shapes.specs.Numbering.{structures}
 use Rattle.abstract_shapes.specs.Shapes.{truth_of}
-use Rattle.abstract_shapes.proofs.NumberLemmas.{shape_read}
+use Rattle.abstract_shapes.proofs.NumberLemmas.{truth_lent}
 use Rattle.abstract_shapes.proofs.shapes.Shapes.truth.Goals as goal
 
-pub returns : goal.returns
-returns c =
-    rw (← c.self.view_is)
-    (c.truth_of.ensures (structures c.self.inside.rows.items)
-    ∙ ap truth_of (shape_read c.self.inside.rows.items c.self.invariant c.args.id c.index.result.now (omega (arith, c.requires, ap length c.self.view_is))
-    (subst (λ n. c.index.result.now ≡ get_or c.self.inside.rows.items n c.index.result.now) c.number.ensures c.index.ensures)))
+pub returns-in-Some : goal.returns-in-Some
+returns-in-Some c =
+    let told = rw c.number.ensures at c.in-Some.ensures.key in
+    rw (← c.self.view_is) (c.truth_of.ensures (structures c.self.inside.rows.keys) ∙ ap truth_of (truth_lent c.self.inside.rows.keys c.self.invariant c.args.id (Some c.in-Some.shape) told))
+
+pub returns-in-None : goal.returns-in-None
+returns-in-None c =
+    let told = rw c.number.ensures at c.in-None.ensures.key in
+    rw (← c.self.view_is) (ap truth_of (truth_lent c.self.inside.rows.keys c.self.invariant c.args.id None told))

@@ -1,9 +1,9 @@
-use Rattle.std.proofs.Common.{◌≡◌, false}
-use Rattle.abstract_shapes.specs.Tables.{has_shape}
-use Rattle.abstract_shapes.proofs.TableLemmas.{distinct_more}
 use Rattle.abstract_shapes.proofs.table.Table.add.Goals as goal
+use Rattle.abstract_shapes.proofs.table.Table.add.Goals.{in-Ok, in-Err}
 
-pub invariant_of-self-2 : goal.invariant_of-self-2
-invariant_of-self-2 c =
-    let absent : has_shape c.args.shape c.self.inside.shapes.items ≡ false = cc in
-    rw c.in_ok-push.ensures.items (distinct_more c.self.inside.shapes.items c.args.shape c.self.invariant absent)
+pub returns-clause-fresh : goal.returns-clause-fresh
+returns-clause-fresh c =
+    elim c.match-insert.branch [
+      | in-Ok w ↦ rw (w.result-is, ← c.self.view_is) w.in-Ok.ensures.added
+      | in-Err w ↦ rw w.result-is tt
+    ]

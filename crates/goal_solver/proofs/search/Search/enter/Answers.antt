@@ -1,4 +1,4 @@
-use Rattle.std.proofs.Common.{◌≡◌, ◌∙◌, ◌++◌, ◌∷◌, [], true, arith, ap, refl}
+use Rattle.std.proofs.Common.{◌≡◌, ◌∙◌, ◌++◌, ◌∷◌, [], true, ap, refl}
 use Rattle.goal_solver.proofs.Meetings.{entered, added_new}
 use Rattle.goal_solver.proofs.search.Search.enter.Goals as goal
 

@@ -1,4 +1,4 @@
-use Rattle.std.proofs.Common.{◌∙◌, rules, ap, sym, subst, List, Some}
+use Rattle.std.proofs.Common.{◌∙◌, rules, ap, sym, subst, Some}
 use Rattle.std.proofs.lemmas.List.Sorted.{answers_always}
 use Rattle.typegraph.specs.Maps.{look, IsRising}
 use Rattle.typegraph.proofs.Joins.{found_by_search, none_by_search}

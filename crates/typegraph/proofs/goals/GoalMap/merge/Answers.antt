@@ -1,4 +1,4 @@
-use Rattle.std.proofs.Common.{◌≡◌, ◌++◌, ◌∙◌, [], ap}
+use Rattle.std.proofs.Common.{◌++◌, ◌∙◌, [], ap}
 use Rattle.typegraph.specs.Maps.{IsJoined}
 use Rattle.typegraph.proofs.Joins.{joined_both}
 use Rattle.typegraph.proofs.Results.{mapped}

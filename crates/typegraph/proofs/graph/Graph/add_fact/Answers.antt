@@ -1,4 +1,4 @@
-use Rattle.std.proofs.Common.{◌≡◌, ◌<◌, ◌∙◌, arith, ap, sym, subst, [], length, slice_get}
+use Rattle.std.proofs.Common.{◌≡◌, ◌<◌, ◌∙◌, arith, sym, subst, [], length}
 use Rattle.std.specs.Option.{IfSome}
 use Rattle.typegraph.specs.Maps.{IsJoined, IsRising}
 use Rattle.typegraph.specs.Graphs.{HasFact}

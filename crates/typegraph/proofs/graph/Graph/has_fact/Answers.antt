@@ -1,6 +1,5 @@
-use Rattle.std.proofs.Common.{sym, subst, slice_get}
-use Rattle.std.specs.List.{Contains}
-use Rattle.typegraph.specs.Graphs.{HasFact, row_of}
+use Rattle.std.proofs.Common.{slice_get}
+use Rattle.typegraph.specs.Graphs.{row_of}
 use Rattle.typegraph.proofs.Exact.{among_itself, itself_among}
 use Rattle.typegraph.proofs.graph.Graph.has_fact.Goals as goal
 

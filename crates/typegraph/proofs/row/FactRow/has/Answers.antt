@@ -1,5 +1,3 @@
-use Rattle.std.proofs.Common.{◌∙◌, sym, subst}
-use Rattle.std.specs.List.{Contains}
 use Rattle.typegraph.proofs.Exact.{contains_fact}
 use Rattle.typegraph.proofs.row.FactRow.has.Goals as goal
 

@@ -1,0 +1,5 @@
+mod Shapes
+mod StatementShapes
+mod Cleans
+mod FirstLocals
+mod Formed

@@ -1,0 +1,248 @@
+-- Runs with values that stubs declare, computed.
+use Rattle.std.specs.Prelude.{◌≡◌, pos, true, false, [], ◌∷◌, Some, None, refl, codes}
+use Rattle.place_ids.specs.declared.operators.BinOp.TheVariants as bin
+use Rattle.place_ids.specs.declared.operators.CompareOp.TheVariants as cmp
+use Rattle.py_tree.specs.declared.literal.Literal.TheVariants as lit
+use Rattle.type_terms.specs.Terms as term
+use Rattle.type_terms.specs.Stubs.{Stub}
+use Rattle.py_tree.specs.Tree as tree
+use Rattle.py_tree.specs.Tree.{Module, node, Exprs, no_exprs, expr, no_bound, bound, no_args, arg, no_pairs, pair, statement, no_stmts, stmt, no_arms, arm, no_handlers, handler, fun_def, class_def, no_members, member}
+use Rattle.py_meaning.specs.Values.{truth, whole, ref}
+use Rattle.py_meaning.specs.Objects as object
+use Rattle.py_meaning.specs.Events as event
+use Rattle.py_meaning.specs.Runs.{turns_within, answer, ended}
+use Rattle.py_meaning.proofs.Samples.{answered, native, error, anything}
+
+-- v: Any, o: object, u: Union[K, KeyError], xs: List[int], d: Dict[str, int], e: Tuple[()]
+-- class K, class Err(KeyError)
+abbrev m : Stub
+m = record {
+  names = record { name = codes "v"; term = term.any } ∷ record { name = codes "o"; term = term.class (codes "object") }
+      ∷ record { name = codes "u"; term = term.union (term.term (term.class (codes "K")) (term.term (term.class (codes "KeyError")) term.no_terms)) }
+      ∷ record { name = codes "xs"; term = term.list term.int } ∷ record { name = codes "d"; term = term.dict term.str term.int } ∷ record { name = codes "e"; term = term.tuple term.no_terms } ∷ [];
+  funs = [];
+  classes = record { name = codes "K"; base = None; names = []; funs = [] } ∷ record { name = codes "Err"; base = Some (codes "KeyError"); names = []; funs = [] } ∷ [];
+}
+
+-- what may be anything may be None
+--     from m import v
+--     x = None is v
+abbrev may_be_none_module : Module
+may_be_none_module = record {
+  body = stmt (statement (tree.from (0 ∷ []) (record { name = 1; alias = None } ∷ [])) 1) (stmt (statement (tree.assign (expr (node (tree.name 2) 2 0) no_exprs) (node (tree.compare cmp.Is (node (tree.literal lit.NoneValue) 2 1) (node (tree.name 1) 2 2)) 2 3)) 2) no_stmts);
+  names = codes "m" ∷ codes "v" ∷ codes "x" ∷ [];
+}
+
+may_be_none : answered may_be_none_module ((codes "m", m) ∷ []) 0 (0 ∷ 0 ∷ 0 ∷ 0 ∷ []) ([]) ≡ record {
+  events = event.held 2 (truth true) ∷ [];
+  heap = anything ∷ [];
+  ending = ended;
+  choices = [];
+  turns = 0;
+}
+unfolding answer turns_within
+may_be_none = refl
+
+may_be_another : answered may_be_none_module ((codes "m", m) ∷ []) 0 (0 ∷ 0 ∷ 0 ∷ 1 ∷ []) ([]) ≡ record {
+  events = event.held 2 (truth false) ∷ [];
+  heap = anything ∷ [];
+  ending = ended;
+  choices = [];
+  turns = 0;
+}
+unfolding answer turns_within
+may_be_another = refl
+
+--     from m import K
+--     x = K() in [2]
+abbrev is_looked_for_in_a_list_module : Module
+is_looked_for_in_a_list_module = record {
+  body = stmt (statement (tree.from (0 ∷ []) (record { name = 1; alias = None } ∷ [])) 1) (stmt (statement (tree.assign (expr (node (tree.name 2) 2 0) no_exprs) (node (tree.compare cmp.Within (node (tree.call (node (tree.name 1) 2 1) no_args) 2 2) (node (tree.list (expr (node (tree.literal (lit.Int false 2)) 2 3) no_exprs)) 2 4)) 2 5)) 2) no_stmts);
+  names = codes "m" ∷ codes "K" ∷ codes "x" ∷ [];
+}
+
+is_looked_for_in_a_list : answered is_looked_for_in_a_list_module ((codes "m", m) ∷ []) 1 (0 ∷ 0 ∷ 0 ∷ 0 ∷ 0 ∷ []) ([]) ≡ record {
+  events = event.held 2 (truth true) ∷ [];
+  heap = object.foreign (object.stub_class (codes "m") (codes "K")) ∷ object.outside (term.class (codes "m.K")) ∷ object.list 4 (whole (pos 2) ∷ []) ∷ [];
+  ending = ended;
+  choices = [];
+  turns = 0;
+}
+unfolding answer turns_within
+is_looked_for_in_a_list = refl
+
+-- a class of the module may be below one of a stub
+--     from m import K
+--     class C:
+--         pass
+--     x = isinstance(C(), K)
+abbrev may_be_of_a_stub_class_module : Module
+may_be_of_a_stub_class_module = record {
+  body = stmt (statement (tree.from (0 ∷ []) (record { name = 1; alias = None } ∷ [])) 1) (stmt (statement (tree.class (class_def 0 2 None (member tree.pass_member no_members) 2)) 2) (stmt (statement (tree.assign (expr (node (tree.name 3) 4 0) no_exprs) (node (tree.call (node (tree.name 4) 4 1) (arg None (node (tree.call (node (tree.name 2) 4 2) no_args) 4 3) (arg None (node (tree.name 1) 4 4) no_args))) 4 5)) 4) no_stmts));
+  names = codes "m" ∷ codes "K" ∷ codes "C" ∷ codes "x" ∷ codes "isinstance" ∷ [];
+}
+
+may_be_of_a_stub_class : answered may_be_of_a_stub_class_module ((codes "m", m) ∷ []) 2 (0 ∷ 0 ∷ 0 ∷ 0 ∷ 0 ∷ 0 ∷ 0 ∷ []) ([]) ≡ record {
+  events = event.held 3 (truth true) ∷ [];
+  heap = object.foreign (object.stub_class (codes "m") (codes "K")) ∷ object.class 0 [] ∷ native (codes "isinstance") ∷ object.instance 0 [] ∷ [];
+  ending = ended;
+  choices = [];
+  turns = 0;
+}
+unfolding answer turns_within
+may_be_of_a_stub_class = refl
+
+may_be_of_no_stub_class : answered may_be_of_a_stub_class_module ((codes "m", m) ∷ []) 2 (0 ∷ 0 ∷ 0 ∷ 0 ∷ 0 ∷ 0 ∷ 1 ∷ []) ([]) ≡ record {
+  events = event.held 3 (truth false) ∷ [];
+  heap = object.foreign (object.stub_class (codes "m") (codes "K")) ∷ object.class 0 [] ∷ native (codes "isinstance") ∷ object.instance 0 [] ∷ [];
+  ending = ended;
+  choices = [];
+  turns = 0;
+}
+unfolding answer turns_within
+may_be_of_no_stub_class = refl
+
+--     from m import Err
+--     try:
+--         raise Err()
+--     except Err:
+--         x = 1
+abbrev catches_a_stub_exception_module : Module
+catches_a_stub_exception_module = record {
+  body = stmt (statement (tree.from (0 ∷ []) (record { name = 1; alias = None } ∷ [])) 1) (stmt (statement (tree.try (stmt (statement (tree.raise (Some (node (tree.call (node (tree.name 1) 3 0) no_args) 3 1)) None) 3) no_stmts) (handler (Some (node (tree.name 1) 4 2)) None (stmt (statement (tree.assign (expr (node (tree.name 2) 5 3) no_exprs) (node (tree.literal (lit.Int false 1)) 5 4)) 5) no_stmts) 4 no_handlers) no_stmts) 2) no_stmts);
+  names = codes "m" ∷ codes "Err" ∷ codes "x" ∷ [];
+}
+
+catches_a_stub_exception : answered catches_a_stub_exception_module ((codes "m", m) ∷ []) 1 (0 ∷ 0 ∷ 0 ∷ 0 ∷ 0 ∷ 0 ∷ 0 ∷ []) ([]) ≡ record {
+  events = event.held 2 (whole (pos 1)) ∷ [];
+  heap = object.foreign (object.stub_class (codes "m") (codes "Err")) ∷ object.outside (term.class (codes "m.Err")) ∷ [];
+  ending = ended;
+  choices = [];
+  turns = 0;
+}
+unfolding answer turns_within
+catches_a_stub_exception = refl
+
+--     from m import Err
+--     try:
+--         raise Err()
+--     except LookupError:
+--         x = 1
+abbrev catches_a_stub_exception_by_a_base_module : Module
+catches_a_stub_exception_by_a_base_module = record {
+  body = stmt (statement (tree.from (0 ∷ []) (record { name = 1; alias = None } ∷ [])) 1) (stmt (statement (tree.try (stmt (statement (tree.raise (Some (node (tree.call (node (tree.name 1) 3 0) no_args) 3 1)) None) 3) no_stmts) (handler (Some (node (tree.name 2) 4 2)) None (stmt (statement (tree.assign (expr (node (tree.name 3) 5 3) no_exprs) (node (tree.literal (lit.Int false 1)) 5 4)) 5) no_stmts) 4 no_handlers) no_stmts) 2) no_stmts);
+  names = codes "m" ∷ codes "Err" ∷ codes "LookupError" ∷ codes "x" ∷ [];
+}
+
+catches_a_stub_exception_by_a_base : answered catches_a_stub_exception_by_a_base_module ((codes "m", m) ∷ []) 1 (0 ∷ 0 ∷ 0 ∷ 0 ∷ 0 ∷ 0 ∷ 0 ∷ []) ([]) ≡ record {
+  events = event.held 3 (whole (pos 1)) ∷ [];
+  heap = object.foreign (object.stub_class (codes "m") (codes "Err")) ∷ object.outside (term.class (codes "m.Err")) ∷ native (codes "LookupError") ∷ [];
+  ending = ended;
+  choices = [];
+  turns = 0;
+}
+unfolding answer turns_within
+catches_a_stub_exception_by_a_base = refl
+
+-- the stub's own class stands under its whole name, behind the builtin one
+--     from m import u
+--     x = u
+abbrev a_union_in_order_module : Module
+a_union_in_order_module = record {
+  body = stmt (statement (tree.from (0 ∷ []) (record { name = 1; alias = None } ∷ [])) 1) (stmt (statement (tree.assign (expr (node (tree.name 2) 2 0) no_exprs) (node (tree.name 1) 2 1)) 2) no_stmts);
+  names = codes "m" ∷ codes "u" ∷ codes "x" ∷ [];
+}
+
+a_union_in_order : answered a_union_in_order_module ((codes "m", m) ∷ []) 0 (0 ∷ 0 ∷ 0 ∷ []) ([]) ≡ record {
+  events = event.held 2 (ref 0) ∷ [];
+  heap = error (codes "KeyError") ∷ [];
+  ending = ended;
+  choices = [];
+  turns = 0;
+}
+unfolding answer turns_within
+a_union_in_order = refl
+
+the_last_of_a_union : answered a_union_in_order_module ((codes "m", m) ∷ []) 0 (0 ∷ 1 ∷ 0 ∷ []) ([]) ≡ record {
+  events = event.held 2 (ref 0) ∷ [];
+  heap = object.outside (term.class (codes "m.K")) ∷ [];
+  ending = ended;
+  choices = [];
+  turns = 0;
+}
+unfolding answer turns_within
+the_last_of_a_union = refl
+
+--     from m import o
+--     x = o.z
+abbrev object_may_be_anything_module : Module
+object_may_be_anything_module = record {
+  body = stmt (statement (tree.from (0 ∷ []) (record { name = 1; alias = None } ∷ [])) 1) (stmt (statement (tree.assign (expr (node (tree.name 2) 2 0) no_exprs) (node (tree.attr (node (tree.name 1) 2 1) 3) 2 2)) 2) no_stmts);
+  names = codes "m" ∷ codes "o" ∷ codes "x" ∷ codes "z" ∷ [];
+}
+
+object_may_be_anything : answered object_may_be_anything_module ((codes "m", m) ∷ []) 0 (0 ∷ 0 ∷ 0 ∷ []) ([]) ≡ record {
+  events = event.held 2 (ref 1) ∷ [];
+  heap = anything ∷ anything ∷ [];
+  ending = ended;
+  choices = [];
+  turns = 0;
+}
+unfolding answer turns_within
+object_may_be_anything = refl
+
+--     from m import d
+--     d[1] = 2
+abbrev forgets_what_is_stored_module : Module
+forgets_what_is_stored_module = record {
+  body = stmt (statement (tree.from (0 ∷ []) (record { name = 1; alias = None } ∷ [])) 1) (stmt (statement (tree.assign (expr (node (tree.item (node (tree.name 1) 2 0) (node (tree.literal (lit.Int false 1)) 2 1)) 2 2) no_exprs) (node (tree.literal (lit.Int false 2)) 2 3)) 2) no_stmts);
+  names = codes "m" ∷ codes "d" ∷ [];
+}
+
+forgets_what_is_stored : answered forgets_what_is_stored_module ((codes "m", m) ∷ []) 0 (0 ∷ 0 ∷ 0 ∷ []) ([]) ≡ record {
+  events = [];
+  heap = object.outside (term.dict term.str term.int) ∷ [];
+  ending = ended;
+  choices = [];
+  turns = 0;
+}
+unfolding answer turns_within
+forgets_what_is_stored = refl
+
+-- not even whether it can be iterated matters
+--     from m import xs
+--     xs += 3
+abbrev forgets_what_is_added_module : Module
+forgets_what_is_added_module = record {
+  body = stmt (statement (tree.from (0 ∷ []) (record { name = 1; alias = None } ∷ [])) 1) (stmt (statement (tree.augment (node (tree.name 1) 2 0) bin.Add (node (tree.literal (lit.Int false 3)) 2 1)) 2) no_stmts);
+  names = codes "m" ∷ codes "xs" ∷ [];
+}
+
+forgets_what_is_added : answered forgets_what_is_added_module ((codes "m", m) ∷ []) 0 (0 ∷ 0 ∷ 0 ∷ []) ([]) ≡ record {
+  events = event.held 1 (ref 0) ∷ [];
+  heap = object.outside (term.list term.int) ∷ [];
+  ending = ended;
+  choices = [];
+  turns = 0;
+}
+unfolding answer turns_within
+forgets_what_is_added = refl
+
+--     from m import e
+--     for x in e:
+--         pass
+abbrev an_empty_tuple_has_no_element_module : Module
+an_empty_tuple_has_no_element_module = record {
+  body = stmt (statement (tree.from (0 ∷ []) (record { name = 1; alias = None } ∷ [])) 1) (stmt (statement (tree.for (node (tree.name 2) 2 0) (node (tree.name 1) 2 1) (stmt (statement tree.pass 3) no_stmts)) 2) no_stmts);
+  names = codes "m" ∷ codes "e" ∷ codes "x" ∷ [];
+}
+
+an_empty_tuple_has_no_element : answered an_empty_tuple_has_no_element_module ((codes "m", m) ∷ []) 0 (0 ∷ 0 ∷ 0 ∷ []) ([]) ≡ record {
+  events = [];
+  heap = object.outside (term.tuple term.no_terms) ∷ [];
+  ending = ended;
+  choices = [];
+  turns = 0;
+}
+unfolding answer turns_within
+an_empty_tuple_has_no_element = refl

@@ -1,0 +1,13 @@
+pub mod Functions
+pub mod Going
+pub mod Values
+pub mod Leaving
+pub mod Targets
+pub mod Loops
+pub mod Classes
+pub mod Statements
+pub mod Running
+pub mod Depths
+pub mod Faultless
+pub mod Following
+pub mod OnlyOps

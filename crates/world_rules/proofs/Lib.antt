@@ -1,0 +1,14 @@
+pub mod Same
+pub mod Members
+pub mod Growing
+pub mod Least
+pub mod Told
+pub mod Extending
+pub mod Given
+pub mod Counted
+pub mod OneReport
+pub mod OneStub
+pub mod Programs
+pub mod Samples
+pub mod Paths
+pub mod Modules

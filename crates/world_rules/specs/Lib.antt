@@ -1,0 +1,15 @@
+pub mod Places
+pub mod Sources
+pub mod Traits
+pub mod Operators
+pub mod Rows
+pub mod Readings
+pub mod Branches
+pub mod Items
+pub mod Rules
+pub mod Texts
+pub mod Findings
+pub mod Stubs
+pub mod OfProgram
+pub mod Memories
+pub mod Samples
