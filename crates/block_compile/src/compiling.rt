@@ -11,19 +11,17 @@ use py_scope::Scopes;
 use py_tree::Module;
 use std::alloc::{AllocError, Global};
 
-/// The program of a module, whose scopes these are. It can only run out of memory: so is taken code of 2³² instructions and more, or as many ranges, functions, parameters of a function, or slots of a stack.
-pub fn compile(alloc: Global, module: &Module, scopes: &Scopes) -> Result<Program, AllocError>
-    requires { scopes.now ≡ scoped (module_view «module».now) }
-    ensures { IfOk result (λ program. program ≡ compiled (module_view «module».now) scopes.now) }
+/// The program of a module, whose scopes these are; its names and its scopes are the module's, moved. It can only run out of memory: so is taken code of 2³² instructions and more, or as many ranges, functions, parameters of a function, or slots of a stack.
+pub fn compile(alloc: Global, module: Module, scopes: Scopes) -> Result<Program, AllocError>
+    requires { scopes ≡ scoped (module_view «module») }
+    ensures { IfOk result (λ program. program ≡ compiled (module_view «module») scopes) }
 {
-    let body = module.body.as_slice();
-    let mut names = module.names.copy()?;
+    let Module { body, mut names } = module;
     let Ok(error) = names.intern("AssertionError") else {
         return Err(AllocError);
     };
-    let tables = tables_of(alloc, scopes, error, body)?;
-    let code = module_code(alloc, scopes, error, body)?;
-    let scopes = scopes.copy()?;
+    let tables = tables_of(alloc, &scopes, error, body.as_slice())?;
+    let code = module_code(alloc, &scopes, error, body.as_slice())?;
     let Tables {
         codes,
         funs,

@@ -28,9 +28,9 @@ fn tree_of(alloc: Global, source: &str) -> Result<Module, Fail> {
 }
 
 // The program of a tree.
-fn compiled(alloc: Global, module: &Module) -> Result<Program, Fail> {
-    match scope(alloc, module) {
-        Ok(scopes) => Ok(compile(alloc, module, &scopes)?),
+fn compiled(alloc: Global, module: Module) -> Result<Program, Fail> {
+    match scope(alloc, &module) {
+        Ok(scopes) => Ok(compile(alloc, module, scopes)?),
         Err(_) => Err(Fail::from("no scopes")),
     }
 }
@@ -38,7 +38,7 @@ fn compiled(alloc: Global, module: &Module) -> Result<Program, Fail> {
 // The program of a text.
 fn program_of(alloc: Global, source: &str) -> Result<Program, Fail> {
     let module = tree_of(alloc, source)?;
-    compiled(alloc, &module)
+    compiled(alloc, module)
 }
 
 // Each instruction behind the line that it has, where that isn't the one of the instruction before, and the ranges.

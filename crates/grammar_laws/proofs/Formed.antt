@@ -1,7 +1,13 @@
 -- What has the grammar's shape and no fault is well formed.
-use Rattle.std.proofs.Common.{◌≡◌, ℕ, Bool, true, false, ◌&&◌, ◌||◌, not, List, [], ◌∷◌, ◌++◌, length, Option, Some, None, refl, sym, subst}
+use Rattle.std.proofs.Common.{◌≡◌, ℕ, Bool, true, false, ◌&&◌, ◌||◌, not, List, [], ◌∷◌, ◌++◌, length, Option, Some, None, option_map, slice_get, refl, sym, subst, ◌∙◌}
 use Rattle.py_tree.specs.Tree as tree
 use Rattle.py_tree.specs.Tree.{Expr, node, Exprs, no_exprs, expr, Bound, no_bound, bound, Args, no_args, arg, Pairs, no_pairs, pair, ImportPart, FromPart, Param, statement, StmtKind, Stmts, no_stmts, stmt, Arms, no_arms, arm, Handlers, no_handlers, handler, FunDef, fun_def, ClassDef, class_def, Member, Members, no_members, member, Module}
+use Rattle.py_tokens.specs.declared.token.Token.{Token}
+use Rattle.py_tokens.specs.Readings.{HasTokens}
+use Rattle.py_tokens.specs.TokenList.{TokenList}
+use Rattle.py_tokens.proofs.NameNumbers.{names_are_numbered}
+use Rattle.py_grammar.specs.Cursor.{kind_in}
+use Rattle.py_grammar.specs.Modules.{start}
 use Rattle.scope_rules.specs.declared.fault.Fault.{Fault}
 use Rattle.scope_rules.specs.declared.fault.Rule.TheVariants as rule
 use Rattle.scope_rules.specs.declared.jump.Jump.{Jump}
@@ -18,7 +24,7 @@ use Rattle.scope_rules.specs.WellFormed.{Surroundings, looped, AreNames, IsNameO
 use Rattle.grammar_laws.specs.Laws.{TreesAreWellFormed}
 use Rattle.grammar_laws.proofs.Cleans.{left_none, right_none, no_fault, Clean, clean_left, clean_right, clean_super, Stays, stays_left, stays_right, stays_exit, stays_return}
 use Rattle.grammar_laws.proofs.FirstLocals.{params_are_first}
-use Rattle.grammar_laws.proofs.Shapes.{anywhere}
+use Rattle.grammar_laws.proofs.Shapes.{anywhere, Numbered}
 use Rattle.grammar_laws.proofs.StatementShapes.{HasShape, MemberHasShape, MembersHaveShape, ClassHasShape, HaveShape, statements_shape}
 
 -- ---- names, which have the same numbers wherever they stand
@@ -248,8 +254,15 @@ module_here texts count earlier (stmt (statement kind line) rest) h c j e = (
   module_here texts count earlier rest h.1 (clean_right true (uses_of kind line) (uses rest) c) (stays_right false (jumps_of false kind line) (jumps false rest) j) e,
 )
 
+kind_is : (o : Option Token) → option_map (λ token. token.kind) o ≡ kind_in o
+kind_is None = refl
+kind_is (Some token) = refl
+
+numbered : (text : List ℕ) (t : TokenList) → HasTokens text t.tokens t.names → Numbered (length t.names) (start t)
+numbered text t has place n e = names_are_numbered text t.tokens t.names has place n (kind_is (slice_get t.tokens place) ∙ e)
+
 pub trees_are_well_formed : TreesAreWellFormed
-trees_are_well_formed t m below is none =
+trees_are_well_formed text t m has is none =
     let us : List Mention = uses m.body in
     let js : List Jump = jumps false m.body in
     let top : top_faults m.names us js ≡ [] = left_none (top_faults m.names us js) (definition_faults m.names [] m.body) none in
@@ -258,5 +271,5 @@ trees_are_well_formed t m below is none =
     let clean : Clean true us = right_none (rebound us ++ builtin_bound m.names us ++ breaks_outside js ++ returns_outside js) (super_uses true us) five in
     let three = left_none (rebound us ++ builtin_bound m.names us ++ breaks_outside js) (returns_outside js) four in
     let stay : Stays false js = (right_none (rebound us ++ builtin_bound m.names us) (breaks_outside js) three, λ e. right_none (rebound us ++ builtin_bound m.names us ++ breaks_outside js) (returns_outside js) four) in
-    let shape : HaveShape (length t.names) m.body = (statements_shape (length t.names) is.body below).0 in
+    let shape : HaveShape (length t.names) m.body = (statements_shape (length t.names) is.body (numbered text t has)).0 in
     subst (λ names. AreFormedHere (length names) m.body) (sym is.names) (module_here m.names (length t.names) [] m.body shape clean stay (right_none (top_faults m.names us js) (definition_faults m.names [] m.body) none))

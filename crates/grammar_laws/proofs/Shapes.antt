@@ -1,12 +1,12 @@
 -- What the grammar alone says of expressions, where each name among the tokens has a number.
-use Rattle.std.proofs.Common.{ℕ, ◌<◌, Bool, true, refl}
+use Rattle.std.proofs.Common.{◌≡◌, ℕ, ◌<◌, Bool, true, Some, slice_get, refl}
 use Rattle.place_ids.specs.declared.operators.CompareOp.{CompareOp}
 use Rattle.py_tree.specs.Tree.{Expr, Exprs, Bound, Args, Pairs}
-use Rattle.py_grammar.specs.Cursor.{Cursor, past}
+use Rattle.py_tokens.specs.declared.token.TokenKind.TheVariants as kind
+use Rattle.py_grammar.specs.Cursor.{Cursor, kind_in, past}
 use Rattle.py_grammar.specs.Names.{IsName}
 use Rattle.py_grammar.specs.Expressions.{AreStrs, strs_one, strs_more, AreOctets, octets_one, octets_more, IsComparison, comparison_less, comparison_greater, comparison_less_eq, comparison_greater_eq, comparison_equal, comparison_not_equal, comparison_is, comparison_is_not, comparison_within, comparison_not_within, IsTest, test_or, test_choice, IsOr, or_and, or_or, IsAnd, and_not, and_and, IsNot, not_compare, not_not, IsCompare, compare_one, compare_two, IsOperation, operation_factor, operation_next, operation_binary, IsFactor, factor_power, factor_unary, IsPower, power_primary, power_pow, IsPrimary, primary_atom, primary_attr, primary_call, primary_item, primary_slice, IsSlice, slice_two, slice_three, IsBound, bound_none, bound_some, AreArgs, args_none, args_last, args_more, arg_test, arg_named, IsAtom, atom_name, atom_int, atom_float, atom_strs, atom_octets, atom_none, atom_true, atom_false, atom_unit, atom_group, atom_empty_list, atom_list, atom_dict, atom_super, ArePairs, pairs_none, pairs_last, pairs_more, AreTests, tests_last, tests_comma, tests_more, IsTests, tests_one, tests_single, tests_tuple}
 use Rattle.scope_rules.specs.WellFormed.{Surroundings, IsFormed, AreFormed, IsFormedBound, AreFormedArgs, AreFormedPairs}
-use Rattle.grammar_laws.specs.Laws.{NamesBelow}
 
 -- where everything may stand
 abbrev pub anywhere : ℕ → Surroundings
@@ -14,7 +14,7 @@ anywhere count = record { names = count; in_loop = true; in_function = true; in_
 
 -- The names among a place's tokens have numbers below this one.
 abbrev pub Numbered : ℕ → Cursor → Type 0
-Numbered count c = NamesBelow count c.tokens
+Numbered count c = (place n : ℕ) → kind_in (slice_get c.tokens place) ≡ Some (kind.Name n) → n < count
 
 pub number_of : (count n : ℕ) (c : Cursor) → Numbered count c → IsName c n → n < count
 number_of count n c h name = h c.place n name.begins

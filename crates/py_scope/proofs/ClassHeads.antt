@@ -1,5 +1,5 @@
 -- The view of statements, by whether the first is a class.
-use Rattle.std.proofs.Common.{◌≡◌, ℕ, ◌+◌, ◌<◌, List, ◌∷◌, drop, map, length, get_or, refl, sym, ap, subst, ◌∙◌}
+use Rattle.std.proofs.Common.{◌≡◌, ℕ, ◌+◌, ◌<◌, List, ◌∷◌, drop, length, get_or, refl, sym, ap, subst, ◌∙◌}
 use Rattle.std.proofs.lemmas.List.{drop_more}
 use Rattle.py_tree.specs.Tree.{Stmts, stmt, Stmt, statement, StmtKind, class, FunDef, ClassDef, class_def, Member}
 use Rattle.py_tree.specs.View.{Arm, Handler, member_step, stmt_kind_step, class_step, fun_step, arm_step, handler_step, stmt_step, stmt_view, stmts_view, stmt_kind_view, class_view, members_view}

@@ -14,3 +14,4 @@ mod Turns
 mod OneAnswer
 mod Scans
 mod Gaps
+mod NameNumbers

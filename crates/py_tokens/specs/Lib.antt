@@ -14,3 +14,4 @@ pub mod Turns
 pub mod Readings
 pub mod Separators
 pub mod Scanners
+pub mod NameNumbers

@@ -1,5 +1,4 @@
 use Rattle.std.proofs.Common.{sym, ap, ◌∙◌, ◌||◌}
-use Rattle.std.specs.List.{list_any}
 use Rattle.std.specs.Str.{bytes_eq}
 use Rattle.type_terms.specs.BuiltinNames.{builtin_functions, builtin_classes, builtin_texts}
 use Rattle.type_terms.specs.Exceptions.{exception_names, is_exception}

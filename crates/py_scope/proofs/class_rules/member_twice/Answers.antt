@@ -1,7 +1,6 @@
 use Rattle.std.proofs.Common.{◌≡◌, ◌∙◌, ◌&&◌, ap, take}
 use Rattle.scope_rules.specs.declared.fault.Rule.TheVariants as rule
 use Rattle.scope_rules.specs.NameLists.{with_name_if}
-use Rattle.scope_rules.specs.Named.{mentioned}
 use Rattle.scope_rules.specs.Roles.{binds}
 use Rattle.scope_rules.specs.Rules.{binds_again}
 use Rattle.scope_rules.proofs.MentionLemmas.{named_step, has_named, faults_step}

@@ -1,4 +1,4 @@
-use Rattle.std.proofs.Common.{◌≡◌, ◌∙◌, ◌&&◌, ◌||◌, Bool, ap, take}
+use Rattle.std.proofs.Common.{◌≡◌, ◌∙◌, ◌&&◌, ◌||◌, ap, take}
 use Rattle.scope_rules.specs.declared.fault.Rule.TheVariants as rule
 use Rattle.scope_rules.specs.NameLists.{has_name, with_name_if}
 use Rattle.scope_rules.specs.Named.{mentioned}

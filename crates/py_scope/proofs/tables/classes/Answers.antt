@@ -1,4 +1,4 @@
-use Rattle.std.proofs.Common.{◌≡◌, ◌+◌, [], ◌∷◌, ◌++◌, List, drop, map, nat_eq, sym, ap, subst, ◌∙◌, rules}
+use Rattle.std.proofs.Common.{◌+◌, [], List, drop, map, nat_eq, sym, ap, subst, ◌∙◌}
 use Rattle.indexmap.specs.IndexMap.{get}
 use Rattle.py_scope.specs.declared.kept_class.KeptClass.{KeptClass}
 use Rattle.py_scope.specs.KeptClasses.{told_from, name_of, place_in, HaveBasesBefore}

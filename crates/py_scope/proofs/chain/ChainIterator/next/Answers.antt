@@ -1,6 +1,4 @@
-use Rattle.std.proofs.Common.{sym, ap, ◌∙◌, ◌∷◌, [], refl, rules}
-use Rattle.py_scope.specs.KeptClasses.{told_from, base_in}
-use Rattle.scope_rules.specs.Tables.{chain_in}
+use Rattle.std.proofs.Common.{sym, ◌∙◌, rules}
 use Rattle.py_scope.proofs.KeptLemmas.{chain_ends, chain_goes}
 use Rattle.py_scope.proofs.chain.ChainIterator.next.Goals as goal
 

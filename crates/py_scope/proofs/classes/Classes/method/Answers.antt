@@ -1,6 +1,5 @@
-use Rattle.std.proofs.Common.{sym, ap, ◌∙◌}
+use Rattle.std.proofs.Common.{◌∙◌}
 use Rattle.std.specs.Option.{option_and_then}
-use Rattle.scope_rules.specs.Scoped.{binds_in}
 use Rattle.scope_rules.specs.Tables.{method_named}
 use Rattle.py_scope.proofs.KeptLemmas.{told_some, told_nothing}
 use Rattle.py_scope.proofs.classes.Classes.method.Goals as goal

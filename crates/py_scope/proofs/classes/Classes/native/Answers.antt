@@ -1,7 +1,4 @@
-use Rattle.std.proofs.Common.{sym, ap, ◌∙◌}
 use Rattle.std.specs.Option.{option_and_then}
-use Rattle.scope_rules.specs.Scoped.{binds_in}
-use Rattle.scope_rules.specs.Tables.{method_named}
 use Rattle.py_scope.proofs.KeptLemmas.{told_some, told_nothing}
 use Rattle.py_scope.proofs.classes.Classes.native.Goals as goal
 
