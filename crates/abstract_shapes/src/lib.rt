@@ -16,8 +16,6 @@ mod shape;
 mod shapes;
 mod sources;
 mod table;
-#[cfg(test)]
-mod tests;
 
 pub use joined::Joined;
 pub use place::Place;
