@@ -29,10 +29,8 @@ fn tree_of(alloc: Global, source: &str) -> Result<Module, Fail> {
 
 // The program of a tree.
 fn compiled(alloc: Global, module: Module) -> Result<Program, Fail> {
-    match scope(alloc, &module) {
-        Ok(scopes) => Ok(compile(alloc, module, scopes)?),
-        Err(_) => Err(Fail::from("no scopes")),
-    }
+    let scopes = scope(alloc, &module)?;
+    Ok(compile(alloc, module, scopes)?)
 }
 
 // The program of a text.

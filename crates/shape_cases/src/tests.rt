@@ -1,9 +1,8 @@
 //! What the calls answer where memory is ample.
-ghost use Rattle.std.specs.Prelude.{◌≡◌, ℕ, false, codes, IfOk};
+ghost use Rattle.std.specs.Prelude.{◌≡◌, false, codes, IfOk};
 ghost use Rattle.std.specs.Str.{bytes_eq};
 ghost use Rattle.type_terms.specs.Terms.{class};
 ghost use Rattle.type_terms.specs.View.{term_view};
-ghost use Rattle.abstract_shapes.specs.Numbering.{IsOuter, IsThere};
 
 use abstract_shapes::{Joined, Place, Row, Shape, Shapes, type_of};
 use builtin_stubs::{Basic, Builtins, NativeId};
@@ -42,22 +41,18 @@ fn class_named(alloc: Global, name: &str) -> Result<TypeTerm, AllocError>
     Ok(TypeTerm::Class(text(alloc, name)?))
 }
 
-// A value from outside of a class.
-fn given_class(alloc: Global, name: &str) -> Result<Shape, AllocError>
+// The id of a value from outside of a class.
+fn intern_class(alloc: Global, shapes: &mut Shapes, name: &str) -> Result<ShapeId, Fail>
     requires { bytes_eq (codes "object") name.now ≡ false }
-    ensures outer { IfOk result IsOuter }
-    ensures there { IfOk result (λ shape. (count : ℕ) → IsThere count shape) }
 {
-    Ok(Shape::Given(class_named(alloc, name)?))
+    let term = class_named(alloc, name)?;
+    Ok(shapes.intern(Shape::Given(term))?)
 }
 
-// A list from outside, whose elements are of a class.
-fn given_list(alloc: Global, name: &str) -> Result<Shape, AllocError>
-    ensures outer { IfOk result IsOuter }
-    ensures there { IfOk result (λ shape. (count : ℕ) → IsThere count shape) }
-{
+// The id of a list from outside, whose elements are of a class.
+fn intern_list(alloc: Global, shapes: &mut Shapes, name: &str) -> Result<ShapeId, Fail> {
     let item = Box::new(alloc, class_named(alloc, name)?)?;
-    Ok(Shape::Given(TypeTerm::List(item)))
+    Ok(shapes.intern(Shape::Given(TypeTerm::List(item)))?)
 }
 
 #[test]
@@ -106,25 +101,53 @@ fn attributes_are_no_members(rt: HostRuntime) -> Result<(), Fail> {
 
 #[test]
 fn equal_shapes_have_one_id(rt: HostRuntime) -> Result<(), Fail> {
-    let alloc = rt.alloc();
-    let mut shapes = Shapes::new(alloc);
+    let mut shapes = Shapes::new(rt.alloc());
+    let site = SiteId::new(1);
     let ids = [
         shapes.intern(Shape::TrueValue)?,
         shapes.intern(Shape::FalseValue)?,
-        shapes.intern(Shape::Tuple(SiteId::new(1), None))?,
-        shapes.intern(Shape::Tuple(SiteId::new(1), Some(0)))?,
-        shapes.intern(given_list(alloc, "A")?)?,
-        shapes.intern(given_list(alloc, "B")?)?,
-        shapes.intern(given_list(alloc, "A")?)?,
-        shapes.intern(Shape::Tuple(SiteId::new(1), None))?,
-        shapes.intern(Shape::Module(text(alloc, "os")?))?,
-        shapes.intern(Shape::Native(Row::StubFun(text(alloc, "os")?, text(alloc, "f")?)))?,
-        shapes.intern(Shape::Native(Row::StubClass(text(alloc, "os")?, text(alloc, "f")?)))?,
-        shapes.intern(Shape::Module(text(alloc, "os")?))?,
+        shapes.intern(Shape::Tuple(site, None))?,
+        shapes.intern(Shape::Tuple(site, Some(0)))?,
+        shapes.intern(Shape::Tuple(site, None))?,
+        shapes.intern(Shape::TrueValue)?,
     ];
-    let numbers = ids.map(|id| id.number());
-    assert_eq!(rt; numbers, [0, 1, 2, 3, 4, 5, 4, 2, 6, 7, 8, 6]);
-    assert_eq!(rt; shapes.len(), 9);
+    assert_eq!(rt; ids.map(|id| id.number()), [0, 1, 2, 3, 2, 0]);
+    assert_eq!(rt; shapes.len(), 4);
+    Ok(())
+}
+
+#[test]
+fn equal_types_from_outside_have_one_id(rt: HostRuntime) -> Result<(), Fail> {
+    let alloc = rt.alloc();
+    let mut shapes = Shapes::new(alloc);
+    let ids = [
+        intern_list(alloc, &mut shapes, "A")?,
+        intern_list(alloc, &mut shapes, "B")?,
+        intern_class(alloc, &mut shapes, "A")?,
+        intern_list(alloc, &mut shapes, "A")?,
+    ];
+    assert_eq!(rt; ids.map(|id| id.number()), [0, 1, 2, 0]);
+    Ok(())
+}
+
+#[test]
+fn equal_names_of_stubs_have_one_id(rt: HostRuntime) -> Result<(), Fail> {
+    let alloc = rt.alloc();
+    let mut shapes = Shapes::new(alloc);
+    let module = shapes.intern(Shape::Module(text(alloc, "os")?))?;
+    let fun = Row::StubFun(text(alloc, "os")?, text(alloc, "f")?);
+    let fun = shapes.intern(Shape::Native(fun))?;
+    let class = Row::StubClass(text(alloc, "os")?, text(alloc, "f")?);
+    let class = shapes.intern(Shape::Native(class))?;
+    let again = shapes.intern(Shape::Module(text(alloc, "os")?))?;
+    let ids = [module, fun, class, again];
+    assert_eq!(rt; ids.map(|id| id.number()), [0, 1, 2, 0]);
+    Ok(())
+}
+
+#[test]
+fn a_copy_is_the_same_shape(rt: HostRuntime) -> Result<(), Fail> {
+    let alloc = rt.alloc();
     let row = Row::StubFun(text(alloc, "os")?, text(alloc, "f")?);
     let native = Shape::Native(row);
     let again = native.copy(alloc)?;
@@ -146,9 +169,9 @@ fn shapes_have_kinds(rt: HostRuntime) -> Result<(), Fail> {
         (Shape::Pair(site), Basic::Tuple),
         (Shape::View(site), Basic::View),
         (Shape::Inst(ClassId::new(1)), Basic::Other),
-        (given_class(alloc, "range")?, Basic::Range),
-        (given_class(alloc, "KeyError")?, Basic::Exception),
-        (given_list(alloc, "C")?, Basic::List),
+        (Shape::Given(class_named(alloc, "range")?), Basic::Range),
+        (Shape::Given(class_named(alloc, "KeyError")?), Basic::Exception),
+        (Shape::Given(TypeTerm::Bytes), Basic::Bytes),
         (Shape::Ext, Basic::Other),
     ];
     for (shape, kind) in rows.iter() {
@@ -221,12 +244,10 @@ fn add_natives(alloc: Global, shapes: &mut Shapes) -> Result<(), Fail> {
 
 // Values from outside 34 to 39, a list 40, a method of it 41.
 fn add_given(alloc: Global, shapes: &mut Shapes) -> Result<(), Fail> {
-    shapes.intern(given_class(alloc, "KeyError")?)?;
-    shapes.intern(given_class(alloc, "LookupError")?)?;
-    shapes.intern(given_class(alloc, "IndexError")?)?;
-    shapes.intern(given_class(alloc, "m.C")?)?;
-    shapes.intern(given_class(alloc, "range")?)?;
-    shapes.intern(given_list(alloc, "C")?)?;
+    for name in ["KeyError", "LookupError", "IndexError", "m.C", "range"] {
+        intern_class(alloc, shapes, name)?;
+    }
+    intern_list(alloc, shapes, "C")?;
     let list = shapes.intern(Shape::List(SiteId::new(12)))?;
     shapes.intern(Shape::BoundNative(list, method("append")))?;
     Ok(())
