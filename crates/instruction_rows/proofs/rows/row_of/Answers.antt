@@ -1,6 +1,6 @@
 -- No rule reads three shapes or more.
 use Rattle.std.proofs.Common.{◌≡◌, ℕ, ◌≤◌, length, List, [], ◌∷◌, refl, ◌∙◌, sym, arith}
-use Rattle.abstract_shapes.specs.Numbering.{structures, shape_at}
+use Rattle.abstract_shapes.specs.Numbering.{structures}
 use Rattle.abstract_shapes.specs.Scenes.{shapes_under}
 use Rattle.abstract_shapes.specs.Shapes.{Shape}
 use Rattle.world_rules.specs.Operators.{no_row}
