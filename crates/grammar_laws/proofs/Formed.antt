@@ -5,7 +5,7 @@ use Rattle.py_tree.specs.Tree.{Expr, node, Exprs, no_exprs, expr, Bound, no_boun
 use Rattle.py_tokens.specs.declared.token.Token.{Token}
 use Rattle.py_tokens.specs.Readings.{HasTokens}
 use Rattle.py_tokens.specs.TokenList.{TokenList}
-use Rattle.py_tokens.proofs.NameNumbers.{names_are_numbered}
+use Rattle.py_tokens.specs.NameNumbers.{NamesBelow}
 use Rattle.py_grammar.specs.Cursor.{kind_in}
 use Rattle.py_grammar.specs.Modules.{start}
 use Rattle.scope_rules.specs.declared.fault.Fault.{Fault}
@@ -258,11 +258,11 @@ kind_is : (o : Option Token) → option_map (λ token. token.kind) o ≡ kind_in
 kind_is None = refl
 kind_is (Some token) = refl
 
-numbered : (text : List ℕ) (t : TokenList) → HasTokens text t.tokens t.names → Numbered (length t.names) (start t)
-numbered text t has place n e = names_are_numbered text t.tokens t.names has place n (kind_is (slice_get t.tokens place) ∙ e)
+numbered : (t : TokenList) → NamesBelow (length t.names) t.tokens → Numbered (length t.names) (start t)
+numbered t below place n e = below place n (kind_is (slice_get t.tokens place) ∙ e)
 
-pub trees_are_well_formed : TreesAreWellFormed
-trees_are_well_formed text t m has is none =
+pub trees_are_well_formed : ((text : List ℕ) (tokens : List Token) (names : List (List ℕ)) → HasTokens text tokens names → NamesBelow (length names) tokens) → TreesAreWellFormed
+trees_are_well_formed names_are_below text t m has is none =
     let us : List Mention = uses m.body in
     let js : List Jump = jumps false m.body in
     let top : top_faults m.names us js ≡ [] = left_none (top_faults m.names us js) (definition_faults m.names [] m.body) none in
@@ -271,5 +271,5 @@ trees_are_well_formed text t m has is none =
     let clean : Clean true us = right_none (rebound us ++ builtin_bound m.names us ++ breaks_outside js ++ returns_outside js) (super_uses true us) five in
     let three = left_none (rebound us ++ builtin_bound m.names us ++ breaks_outside js) (returns_outside js) four in
     let stay : Stays false js = (right_none (rebound us ++ builtin_bound m.names us) (breaks_outside js) three, λ e. right_none (rebound us ++ builtin_bound m.names us ++ breaks_outside js) (returns_outside js) four) in
-    let shape : HaveShape (length t.names) m.body = (statements_shape (length t.names) is.body (numbered text t has)).0 in
+    let shape : HaveShape (length t.names) m.body = (statements_shape (length t.names) is.body (numbered t (names_are_below text t.tokens t.names has))).0 in
     subst (λ names. AreFormedHere (length names) m.body) (sym is.names) (module_here m.names (length t.names) [] m.body shape clean stay (right_none (top_faults m.names us js) (definition_faults m.names [] m.body) none))
