@@ -1,0 +1,2 @@
+dishes = ["soup", "pie"
+price = 12

@@ -1,0 +1,2 @@
+songs = ["So What", "Blue in Green"]
+lengths = [len(song) for song in songs]
