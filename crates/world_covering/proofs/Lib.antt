@@ -5,3 +5,7 @@ pub mod Truths
 pub mod Sameness
 pub mod Unbound
 pub mod RowsHold
+pub mod Seats
+pub mod Steps
+pub mod Trails
+pub mod Names
