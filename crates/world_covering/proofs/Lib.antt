@@ -9,3 +9,4 @@ pub mod Seats
 pub mod Steps
 pub mod Trails
 pub mod Names
+pub mod Built
