@@ -10,3 +10,4 @@ pub mod Steps
 pub mod Trails
 pub mod Names
 pub mod Built
+pub mod Instructions

@@ -114,7 +114,7 @@ rows_hold =
           (by_operator (t ∷ u ∷ []) line v w t u m (sight m.heap v t a) (sight m.heap w u b) (faults.InPlace o) p o site);
       compare = λ o line v w t u m a b. compared line v w t u m a b o;
       unary = λ o line v t m a. by_sign o line v t m (sight m.heap v t a);
-      inverts = λ line v t m a. inverts line v t m a;
+      inverts = λ v t m a. inverts v t m a;
       tests = λ v t m a. tested (λ e. ⊥) v t m a;
       unbound = λ name text line m. unbound_row line m name text;
     }

@@ -26,7 +26,7 @@ use Rattle.py_meaning.specs.Actions.{Memory, Action, gives, bind, is_even}
 use Rattle.py_meaning.specs.Holds.{Holds}
 use Rattle.py_meaning.proofs.Holding.{holds_bind}
 use Rattle.world_covering.specs.Standing.{Stands, a_none, a_true, a_false, an_int, a_float, a_text, some_bytes, from_outside, a_native}
-use Rattle.world_covering.specs.RowLaws.{turnless, Stays, Gave, IsFaultOf, Keeps, Passes}
+use Rattle.world_covering.specs.RowLaws.{turnless, Stays, Gave, Passes, IsInverted}
 use Rattle.world_covering.proofs.Growing.{at_object}
 use Rattle.world_covering.proofs.Rows.{gave}
 
@@ -80,15 +80,7 @@ module _ (t : Shape) (m : Memory) where
       no (inl q) = let z : Some worlds.No ≡ Some worlds.Yes = ap (λ k. Some (truth_as k)) (sym e) ∙ q in cc
       no (inr q) = let z : Some worlds.No ≡ Some worlds.Both = ap (λ k. Some (truth_as k)) (sym e) ∙ q in cc
 
-pub inverts : (line : ℕ) (v : Value) (t : Shape) (m : Memory) → Stands m.heap v t → Keeps transfer.Negates (t ∷ []) line m (bind (truth_of v) (λ b. gives (value.truth (not b))))
-inverts line v t m st =
-    let Told : Event → Type 0 = IsFaultOf (row_of transfer.Negates (t ∷ [])) line in
-    holds_bind (turnless Told) (λ g later b. (later ≡ m) × Passes t b) (λ g later w. Gave (row_of transfer.Negates (t ∷ [])) (t ∷ []) m later w) (λ g later w. Stays m later) (truth_of v) (λ b. gives (value.truth (not b))) tt m
-    (raised_never (tested Told v t m st))
-    (λ b g later q. subst (λ z. Gave (row_of transfer.Negates (t ∷ [])) (t ∷ []) m z (value.truth (not b))) (sym q.0) (inverted t m (shape.truth_of t) b refl q.1))
-  where
-    raised_never : Tested (IsFaultOf (row_of transfer.Negates (t ∷ [])) line) t m (truth_of v) →
-        Holds (turnless (IsFaultOf (row_of transfer.Negates (t ∷ [])) line)) (λ g later b. (later ≡ m) × Passes t b) (λ g later w. Stays m later) tt m (truth_of v)
-    raised_never h =
-        Rattle.py_meaning.proofs.Holding.holds_map (turnless (IsFaultOf (row_of transfer.Negates (t ∷ [])) line)) (λ g later b. (later ≡ m) × Passes t b) (λ g later b. (later ≡ m) × Passes t b) (λ g later w. ⊥) (λ g later w. Stays m later)
-        (truth_of v) tt m h (λ b g later q. q) (λ w g later q. absurd q)
+pub inverts : (v : Value) (t : Shape) (m : Memory) → Stands m.heap v t → IsInverted t m v
+inverts v t m st =
+    holds_bind (turnless (λ e. ⊥)) (λ g later b. (later ≡ m) × Passes t b) (λ g later w. Gave (row_of transfer.Negates (t ∷ [])) (t ∷ []) m later w) (λ g later w. ⊥) (truth_of v) (λ b. gives (value.truth (not b))) tt m
+    (tested (λ e. ⊥) v t m st) (λ b g later q. subst (λ z. Gave (row_of transfer.Negates (t ∷ [])) (t ∷ []) m z (value.truth (not b))) (sym q.0) (inverted t m (shape.truth_of t) b refl q.1))

@@ -72,6 +72,11 @@ Passes t false = PassesBy (λ u. Some (truth_as (truth_of u))) MayBeFalse t
 abbrev pub IsTested : Shape → Memory → Value → Type 0
 IsTested t m v = Holds (turnless (λ e. ⊥)) (λ g later b. (later ≡ m) × Passes t b) (λ g later raised. ⊥) tt m (truths.truth_of v)
 
+-- so does `not`, which gives a shape of its row
+abbrev pub IsInverted : Shape → Memory → Value → Type 0
+IsInverted t m v =
+    Holds (turnless (λ e. ⊥)) (λ g later w. Gave (row_of transfer.Negates (t ∷ [])) (t ∷ []) m later w) (λ g later raised. ⊥) tt m (bind (truths.truth_of v) (λ b. gives (truth (not b))))
+
 -- ---- the laws, for values that stand for the shapes that are read
 
 pub record RowsHold : Type 0 where
@@ -83,8 +88,7 @@ pub record RowsHold : Type 0 where
       Keeps (transfer.Compares o) (t ∷ u ∷ []) line m (operators.compare o line v w)
   pub unary : (o : UnaryOp) (line : ℕ) (v : Value) (t : Shape) (m : Memory) → Stands m.heap v t →
       Keeps (transfer.Applies o) (t ∷ []) line m (operators.unary o line v)
-  pub inverts : (line : ℕ) (v : Value) (t : Shape) (m : Memory) → Stands m.heap v t →
-      Keeps transfer.Negates (t ∷ []) line m (bind (truths.truth_of v) (λ b. gives (truth (not b))))
+  pub inverts : (v : Value) (t : Shape) (m : Memory) → Stands m.heap v t → IsInverted t m v
   pub tests : (v : Value) (t : Shape) (m : Memory) → Stands m.heap v t → IsTested t m v
   -- a name that the module doesn't bind
   pub unbound : (name : ℕ) (text : List ℕ) (line : ℕ) (m : Memory) → Keeps (builtin name text) [] line m (builtin_value text)
