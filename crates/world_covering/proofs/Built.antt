@@ -18,7 +18,7 @@ abbrev pub IsBuilt : ℕ → Op → Type 0
 IsBuilt names (op.LoadName n) = n < names
 IsBuilt names (op.Const k) = Unit {0}
 IsBuilt names (op.StoreName n) = Unit {0}
-IsBuilt names (op.Pick below) = below ≡ 0
+IsBuilt names (op.Pick below) = Unit {0}
 IsBuilt names op.Pop = Unit {0}
 IsBuilt names (op.Unary o) = Unit {0}
 IsBuilt names op.Not = Unit {0}
@@ -60,7 +60,7 @@ module _ (names error : ℕ) where
   puts_built : (line : ℕ) (xs : Exprs) → AreNames xs → OnlyOps Is (put_all [] line xs)
   puts_built line no_exprs p = one_only Is op.Pop line tt
   puts_built line (expr (node (tree.name n) at site) no_exprs) p = one_only Is (op.StoreName n) at tt
-  puts_built line (expr (node (tree.name n) at site) (expr x xs)) p = then_only Is (one_only Is (op.Pick 0) line refl) (then_only Is (one_only Is (op.StoreName n) at tt) (puts_built line (expr x xs) p))
+  puts_built line (expr (node (tree.name n) at site) (expr x xs)) p = then_only Is (one_only Is (op.Pick 0) line tt) (then_only Is (one_only Is (op.StoreName n) at tt) (puts_built line (expr x xs) p))
   puts_built line (expr (node _ at site) xs) p = absurd p
 
   mutual

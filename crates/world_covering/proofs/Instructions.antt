@@ -133,8 +133,8 @@ module _ (s : Source) (items : List Item) (error : ℕ) (closed : IsClosed s ite
 
   -- ---- the stack alone
 
-  pub copy_kept : (x : Around t) (place line below : ℕ) (stack : List Value) (v : Value) (m : Memory) → below ≡ 0 → OpIn t x place (op.Pick below) line → slice_get stack below ≡ Some v → At' x place stack m → At' x (suc place) (v ∷ stack) m
-  copy_kept x place line below stack v m zero_is l e k =
+  pub copy_kept : (x : Around t) (place line below : ℕ) (stack : List Value) (v : Value) (m : Memory) → OpIn t x place (op.Pick below) line → slice_get stack below ≡ Some v → At' x place stack m → At' x (suc place) (v ∷ stack) m
+  copy_kept x place line below stack v m l e k =
       let y : IsSeated k.shapes m.heap (slot x.context (Rattle.world_rules.specs.Places.slots_left (length stack) (suc below))) v = seat_of x.context k.shapes m.heap stack below v e k.slots in
       let r : SeatReading = record { seats = slot_below (length stack) below ∷ []; transfer = transfer.Copies } in
       pushes s items closed x.context place line x.outer (op.Pick below) stack m l k (needs stack below v e) stack m v r (y.shape ∷ []) refl refl refl (omega arith) refl (first r []) (y.has, tt) k.slots

@@ -11,3 +11,4 @@ pub mod Trails
 pub mod Names
 pub mod Built
 pub mod Instructions
+pub mod Following

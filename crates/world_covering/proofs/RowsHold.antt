@@ -116,5 +116,5 @@ rows_hold =
       unary = λ o line v t m a. by_sign o line v t m (sight m.heap v t a);
       inverts = λ v t m a. inverts v t m a;
       tests = λ v t m a. tested (λ e. ⊥) v t m a;
-      unbound = λ name text line m. unbound_row line m name text;
+      unbound = λ name text m. unbound_row m name text;
     }

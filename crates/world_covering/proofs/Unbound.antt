@@ -2,7 +2,7 @@
 use Rattle.std.proofs.Common.{◌≡◌, ℕ, zero, suc, ◌+◌, ◌<◌, ◌++◌, length, ap, ◌∙◌, arith, Bool, true, false, List, [], ◌∷◌, Option, Some, None, slice_get, refl, sym, subst, if◌then◌else◌}
 use Rattle.std.specs.Prelude.{codes, option_map}
 use Rattle.std.specs.Str.{bytes_eq}
-use Rattle.std.specs.List.{list_all, list_any}
+use Rattle.std.specs.List.{Contains, list_all, list_any}
 use Rattle.builtin_stubs.specs.declared.basic.Basic.TheVariants as kind
 use Rattle.builtin_stubs.specs.declared.native.NativeSort.{NativeSort}
 use Rattle.builtin_stubs.specs.declared.native.NativeSort.TheVariants as sort
@@ -31,10 +31,11 @@ use Rattle.py_meaning.specs.Objects as object
 use Rattle.py_meaning.specs.Fresh.{fresh_text, of_one_kind, value_of_row}
 use Rattle.py_meaning.specs.Names.{builtin_value, native_value}
 use Rattle.py_meaning.specs.Actions.{Memory, with_new, Action, allocate, anything, is_even}
-use Rattle.world_covering.specs.Standing.{a_text, a_native}
-use Rattle.world_covering.specs.RowLaws.{Gave, Keeps}
+use Rattle.py_meaning.specs.Holds.{Holds}
+use Rattle.world_covering.specs.Standing.{a_text, from_outside, a_native}
+use Rattle.world_covering.specs.RowLaws.{turnless, Stays, Gave, IsRead}
 use Rattle.world_covering.proofs.Growing.{got_last, stays_new}
-use Rattle.world_covering.proofs.Rows.{gave, ByRow, anything_gives}
+use Rattle.world_covering.proofs.Rows.{gave}
 use Rattle.world_covering.proofs.Tables.{each}
 
 -- ---- the natives that are values are texts
@@ -86,10 +87,17 @@ numbered text n row e r =
     let lt : n < length function_natives = place_below function_natives text n (is_place (place_named function_natives text) n e) in
     each (λ n. text_if_value n.sort (outcome_of n.deed)) function_natives row values_are_texts (got function_natives n row (sym (got_front function_natives method_natives n lt) ∙ r))
 
--- ---- the row
+-- ---- the row, of what tells nothing
 
-native_gives : (n : ℕ) (row : Native) (line : ℕ) (m : Memory) → slice_get natives n ≡ Some row → ByRow (rules.gives (yields.Native n ∷ [])) [] line m (allocate (object.foreign (object.builtin n)))
-native_gives n row line m e =
+abbrev Quiet : TransferRow → Memory → Action Value → Type 0
+Quiet row m action = Holds (turnless (λ e. ⊥)) (λ g later v. Gave row [] m later v) (λ g later v. Stays m later) tt m action
+
+anything_gives : (row : TransferRow) (m : Memory) → Contains row.results yields.Ext → Quiet row m anything
+anything_gives row m i =
+    (tt, tt, record { stays = stays_new m (object.outside type.any); yield = yields.Ext; among = i; shape = shape.ext; is = refl; stands = from_outside (got_last m.heap (object.outside type.any)) })
+
+native_gives : (n : ℕ) (row : Native) (m : Memory) → slice_get natives n ≡ Some row → Quiet (rules.gives (yields.Native n ∷ [])) m (allocate (object.foreign (object.builtin n)))
+native_gives n row m e =
     (tt, tt, record {
       stays = stays_new m (object.foreign (object.builtin n));
       yield = yields.Native n;
@@ -99,9 +107,9 @@ native_gives n row line m e =
       stands = a_native (got_last m.heap (object.foreign (object.builtin n))) e;
     })
 
-module _ (line : ℕ) (m : Memory) where
+module _ (m : Memory) where
   abbrev Text : Action Value → Type 0
-  Text action = ByRow (rules.gives (yields.Str ∷ [])) [] line m action
+  Text action = Quiet (rules.gives (yields.Str ∷ [])) m action
 
   text_gives : Text fresh_text
   text_gives = (tt, λ c. gave (rules.gives (yields.Str ∷ [])) [] m (value.text (is_even c)) yields.Str shape.str (first yields.Str []) refl a_text)
@@ -112,31 +120,31 @@ module _ (line : ℕ) (m : Memory) where
   abbrev yield_of : ℕ → NativeSort → Yield
   yield_of n s = elim s [ sort.Value ↦ yields.Str | _ ↦ yields.Native n ]
 
-  by_sort : (n : ℕ) (row : Native) → slice_get natives n ≡ Some row → (s : NativeSort) (o : Outcome) → text_if_value s o ≡ true → ByRow (rules.gives (yield_of n s ∷ [])) [] line m (acts n s o)
-  by_sort n row e sort.Function o h = native_gives n row line m e
-  by_sort n row e sort.Class o h = native_gives n row line m e
-  by_sort n row e sort.Method o h = native_gives n row line m e
+  by_sort : (n : ℕ) (row : Native) → slice_get natives n ≡ Some row → (s : NativeSort) (o : Outcome) → text_if_value s o ≡ true → Quiet (rules.gives (yield_of n s ∷ [])) m (acts n s o)
+  by_sort n row e sort.Function o h = native_gives n row m e
+  by_sort n row e sort.Class o h = native_gives n row m e
+  by_sort n row e sort.Method o h = native_gives n row m e
   by_sort n row e sort.Value o h = subst Text (sym (text_by o h)) text_gives
 
-  by_native : (text : List ℕ) (n : ℕ) → function_number text ≡ Some n → (o : Option Native) → slice_get natives n ≡ o → ByRow (rules.gives (native_yield n o ∷ [])) [] line m (native_value n o)
-  by_native text n f None e = anything_gives (rules.gives (yields.Ext ∷ [])) [] line m (first yields.Ext [])
+  by_native : (text : List ℕ) (n : ℕ) → function_number text ≡ Some n → (o : Option Native) → slice_get natives n ≡ o → Quiet (rules.gives (native_yield n o ∷ [])) m (native_value n o)
+  by_native text n f None e = anything_gives (rules.gives (yields.Ext ∷ [])) m (first yields.Ext [])
   by_native text n f (Some row) e = by_sort n row e row.sort (outcome_of row.deed) (numbered text n row f e)
 
   module _ (name : ℕ) (text : List ℕ) where
-    outside : (b : Bool) → Keeps (if b then transfer.Makes yields.Ext else transfer.Misses name) [] line m anything
-    outside true = anything_gives (row_of (transfer.Makes yields.Ext) []) [] line m (first yields.Ext [])
-    outside false = anything_gives (row_of (transfer.Misses name) []) [] line m (first yields.Ext [])
+    outside : (b : Bool) → IsRead (if b then transfer.Makes yields.Ext else transfer.Misses name) m anything
+    outside true = anything_gives (row_of (transfer.Makes yields.Ext) []) m (first yields.Ext [])
+    outside false = anything_gives (row_of (transfer.Misses name) []) m (first yields.Ext [])
 
     base : (n : ℕ) → function_number text ≡ Some n → (b : Bool) →
-        Keeps (if b then unknown name text else transfer.Makes (native_yield n (slice_get natives n))) [] line m (if b then anything else native_value n (slice_get natives n))
+        IsRead (if b then unknown name text else transfer.Makes (native_yield n (slice_get natives n))) m (if b then anything else native_value n (slice_get natives n))
     base n f true = outside (list_any (bytes_eq text) outside_names)
     base n f false = by_native text n f (slice_get natives n) refl
 
     by_number : (o : Option ℕ) → function_number text ≡ o →
-        Keeps (elim o [ None ↦ unknown name text | Some n ↦ if bytes_eq text (codes "base_init") then unknown name text else transfer.Makes (native_yield n (slice_get natives n)) ]) [] line m
+        IsRead (elim o [ None ↦ unknown name text | Some n ↦ if bytes_eq text (codes "base_init") then unknown name text else transfer.Makes (native_yield n (slice_get natives n)) ]) m
         (elim o [ None ↦ anything | Some n ↦ if bytes_eq text (codes "base_init") then anything else native_value n (slice_get natives n) ])
     by_number None f = outside (list_any (bytes_eq text) outside_names)
     by_number (Some n) f = base n f (bytes_eq text (codes "base_init"))
 
-    pub unbound_row : Keeps (builtin name text) [] line m (builtin_value text)
+    pub unbound_row : IsRead (builtin name text) m (builtin_value text)
     unbound_row = by_number (function_number text) refl

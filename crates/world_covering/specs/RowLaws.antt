@@ -77,6 +77,10 @@ abbrev pub IsInverted : Shape → Memory → Value → Type 0
 IsInverted t m v =
     Holds (turnless (λ e. ⊥)) (λ g later w. Gave (row_of transfer.Negates (t ∷ [])) (t ∷ []) m later w) (λ g later raised. ⊥) tt m (bind (truths.truth_of v) (λ b. gives (truth (not b))))
 
+-- where nothing is read, and nothing told
+abbrev pub IsRead : Transfer → Memory → Action Value → Type 0
+IsRead rule m action = Holds (turnless (λ e. ⊥)) (λ g later v. Gave (row_of rule []) [] m later v) (λ g later v. Stays m later) tt m action
+
 -- ---- the laws, for values that stand for the shapes that are read
 
 pub record RowsHold : Type 0 where
@@ -91,4 +95,4 @@ pub record RowsHold : Type 0 where
   pub inverts : (v : Value) (t : Shape) (m : Memory) → Stands m.heap v t → IsInverted t m v
   pub tests : (v : Value) (t : Shape) (m : Memory) → Stands m.heap v t → IsTested t m v
   -- a name that the module doesn't bind
-  pub unbound : (name : ℕ) (text : List ℕ) (line : ℕ) (m : Memory) → Keeps (builtin name text) [] line m (builtin_value text)
+  pub unbound : (name : ℕ) (text : List ℕ) (m : Memory) → IsRead (builtin name text) m (builtin_value text)
