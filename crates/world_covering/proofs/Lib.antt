@@ -12,3 +12,4 @@ pub mod Names
 pub mod Built
 pub mod Instructions
 pub mod Following
+pub mod Running

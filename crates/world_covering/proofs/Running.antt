@@ -1,0 +1,174 @@
+-- A run of a module of the covered forms, turn by turn, to its end: each event is told rightly.
+use Rattle.std.proofs.Common.{◌≡◌, ℕ, suc, ◌+◌, ◌<◌, Bool, true, false, ◌&&◌, is_some, Option, Some, None, List, [], ◌∷◌, length, slice_get, ◌⊎◌, inl, inr, refl, sym, ap, subst, ◌∙◌, arith}
+use Rattle.std.specs.Prelude.{IsTrue}
+use Rattle.std.specs.List.{Contains, All}
+use Rattle.std.proofs.lemmas.List.Elements.{All-nil}
+use Rattle.py_tree.specs.Tree.{Expr, Stmts, Module}
+use Rattle.type_terms.specs.Stubs.{Stub}
+use Rattle.scope_rules.specs.Jumps.{jumps}
+use Rattle.graph_walks.specs.Worlds.{nothing}
+use Rattle.graph_walks.specs.Walks.{Walk, start as begin_walk, Visible}
+use Rattle.stack_code.specs.declared.op.Op.{Op}
+use Rattle.stack_code.specs.declared.op.Op.TheVariants as op
+use Rattle.stack_code.specs.Depths.{HasDepth, begins}
+use Rattle.tree_code.specs.Programs.{no_loop, in_module, module_code, last_line}
+use Rattle.tree_code.specs.Pieces.{Piece, instr}
+use Rattle.tree_code.specs.Standing.{Lies, InstrsAt}
+use Rattle.tree_code.specs.Statements.{body_code}
+use Rattle.tree_code.proofs.Bodies.{module_lies, module_ends}
+use Rattle.world_rules.specs.Places.{main, global, at, op_at}
+use Rattle.world_rules.specs.Items.{Item, a_context, has_context, is_root, world_of}
+use Rattle.world_rules.specs.Rules.{of_module, IsClosed}
+use Rattle.world_rules.specs.Stubs.{EndsWith}
+use Rattle.world_rules.proofs.Extending.{within}
+use Rattle.world_rules.proofs.Members.{item_context}
+use Rattle.py_meaning.specs.Values.{Value, entry}
+use Rattle.py_meaning.specs.Events.{held}
+use Rattle.py_meaning.specs.Programs.{Program, printed}
+use Rattle.py_meaning.specs.Statements.{exec_all}
+use Rattle.py_meaning.specs.Calls.{perform}
+use Rattle.py_meaning.specs.Actions.{Memory, Flow, goes_on, breaks, continues, returns, Request, call, while_turn, for_turn, outside_call, Action, then_do, done}
+use Rattle.py_meaning.specs.Runs.{turns_within, carry_out, start, no_memory, tell_if, tell_names, module_action, make_calls, Answer, gave, raised, stopped, run_of, answer}
+use Rattle.py_meaning.specs.Holds.{Holds, HoldsAfter}
+use Rattle.py_meaning.proofs.Holding.{holds_bind, holds_then, GaveInside, RaisedInside, runs_hold}
+use Rattle.tree_covering.specs.Leaving.{MayStand}
+use Rattle.tree_covering.specs.Trails.{Trail, Around, Round, LiesIn, At, DoneAt, SentOver, place_of, FlowAt}
+use Rattle.tree_covering.specs.Turns.{LoopWay, LoopAsked, TurnWay, of_loop, otherwise, TurnAsked, account}
+use Rattle.tree_covering.specs.Modules.{module_round}
+use Rattle.tree_covering.proofs.Loops.{while_inner, while_back, while_body_lies, while_performs, for_inner, for_start, for_back, for_body_lies, for_performs}
+use Rattle.tree_covering.proofs.OnlyOps.{OnlyOps}
+use Rattle.tree_covering.proofs.Statements.{body_goes}
+use Rattle.world_covering.specs.Forms.{IsPlainBody}
+use Rattle.world_covering.specs.Sources.{Settings, source_of}
+use Rattle.world_covering.specs.Keeping.{IsSeated, Kept}
+use Rattle.world_covering.specs.Covering.{IsEnding}
+use Rattle.world_covering.proofs.Built.{IsBuilt, same_body}
+use Rattle.world_covering.proofs.Following.{s, p, error, no_name, t, steps}
+use Rattle.world_covering.proofs.Trails.{IsTold, lasts}
+
+both : (a b : Bool) → a ≡ true → b ≡ true → IsTrue (a && b)
+both a b h k = rw h k
+
+some_first : (xs : List Op) (k : ℕ) (o : Op) → slice_get xs k ≡ Some o → is_some (slice_get xs 0) ≡ true
+some_first [] k o e = cc
+some_first (x ∷ xs) k o e = refl
+
+module _ (m : Module) (stubs : List (List ℕ × Stub)) (settings : Settings) (items : List Item) (closed : IsClosed (source_of m stubs settings) items) (only : OnlyOps (IsBuilt (length m.names)) (body_code (in_module (error m stubs settings items closed)) m.body))
+         (plain : IsPlainBody m.body) (leaves : MayStand false (jumps false m.body)) where
+  abbrev T : Trail
+  T = t m stubs settings items closed
+
+  abbrev P : Program
+  P = p m stubs settings items closed
+
+  abbrev E : ℕ
+  E = error m stubs settings items closed
+
+  abbrev top : Around T
+  top = record { context = main; since = tt; labels = no_loop; outer = None }
+
+  abbrev piece : Piece
+  piece = body_code (in_module (length m.names)) m.body
+
+  same_piece : body_code (in_module E) m.body ≡ piece
+  same_piece = same_body E (length m.names) m.body plain
+
+  lies : LiesIn T top 0 piece
+  lies = subst (λ z. Lies (module_code E m.body) no_loop 0 None z) same_piece (module_lies E m.body)
+
+  at_end : slice_get (module_code E m.body).ops piece.size ≡ Some op.End
+  at_end = subst (λ z. slice_get (module_code E m.body).ops z.size ≡ Some op.End) same_piece (module_ends E m.body).0.0
+
+  -- ---- where the run begins
+
+  main_there : Contains items (a_context main)
+  main_there = closed.has _ of_module
+
+  begun : Kept (s m stubs settings items closed) items main 0 [] no_memory
+  begun =
+      record {
+        here = refl;
+        context = main_there;
+        shapes = nothing;
+        walk = begin_walk (both (is_some (op_at (s m stubs settings items closed).program main 0)) (has_context items main) (some_first (module_code E m.body).ops piece.size op.End at_end) (item_context items main main_there));
+        point = record { code = module_code E m.body; of = refl; has_depth = begins (omega (arith, lies.fits)) };
+        slots = tt;
+        globals = λ n v e. cc;
+        frame = refl;
+      }
+
+  -- ---- what a name holds at the end
+
+  abbrev Ended : Unit {0} → Memory → Unit {0} → Type 0
+  Ended = DoneAt T top piece.size []
+
+  abbrev Left : Unit {0} → Memory → Value → Type 0
+  Left = SentOver T top []
+
+  ending : (n : ℕ) (v : Value) (mem : Memory) → Kept (s m stubs settings items closed) items main piece.size [] mem → entry mem.scope.globals n ≡ Some v → IsEnding (s m stubs settings items closed) items mem.heap n v
+  ending n v mem k e =
+      let y : IsSeated k.shapes mem.heap (global n) v = k.globals n v e in
+      let seen : Visible (world_of (s m stubs settings items closed) items) (at main piece.size 0) (Rattle.world_rules.specs.Items.map_of (global n ∷ []) (y.shape ∷ [])) =
+          record { memory = k.shapes; walk = k.walk; holds = record { at = within k.shapes (global n ∷ []) (y.shape ∷ []) (y.has, tt) } } in
+      record {
+        shape = y.shape;
+        ends = record {
+          place = piece.size;
+          depth = 0;
+          context = main_there;
+          stands = record { code = module_code E m.body; of = refl; op = at_end; has_depth = begun_depth k };
+          seen = inl seen;
+        };
+        stands = y.stands;
+      }
+    where
+      begun_depth : Kept (s m stubs settings items closed) items main piece.size [] mem → HasDepth (module_code E m.body) piece.size 0
+      begun_depth k = let same : k.point.code ≡ module_code E m.body = Rattle.world_covering.proofs.Seats.some_same (sym k.point.of) in subst (λ z. HasDepth z piece.size 0) same k.point.has_depth
+
+  names_go : (names : List ℕ) (mem : Memory) → Kept (s m stubs settings items closed) items main piece.size [] mem → Holds (account T) Ended Left tt mem (tell_names names)
+  names_go [] mem k = k
+  names_go (n ∷ names) mem k = one (entry mem.scope.globals n) refl (names_go names mem k)
+    where
+      one : (o : Option Value) → entry mem.scope.globals n ≡ o → Holds (account T) Ended Left tt mem (tell_names names) → Holds (account T) Ended Left tt mem (tell_if n o (tell_names names))
+      one None e h = h
+      one (Some v) e h = (ending n v mem k e, h)
+
+  -- ---- turns are those of loops
+
+  turns_go : (q : Request) (way : TurnWay T q) (g : Unit {0}) (mem : Memory) → TurnAsked T q way g mem → Holds (account T) (GaveInside (account T) q way g mem) (RaisedInside (account T) q way g mem) g mem (perform P q)
+  turns_go (while_turn test body) (of_loop w) g mem asked =
+      while_performs T P (steps m stubs settings items closed only) test body w (λ g1 m1 k1. body_goes T P (steps m stubs settings items closed only) body (while_inner T P (steps m stubs settings items closed only) test body w) _ (while_back T P (steps m stubs settings items closed only) test body w) g1 m1 w.leaves refl (while_body_lies T P (steps m stubs settings items closed only) test body w) k1) g mem asked
+  turns_go (for_turn target body line v u) (of_loop w) g mem asked =
+      for_performs T P (steps m stubs settings items closed only) target body line w v (λ g1 m1 k1. body_goes T P (steps m stubs settings items closed only) body (for_inner T P (steps m stubs settings items closed only) target body line w v) (for_start T P (steps m stubs settings items closed only) target body line w v) (for_back T P (steps m stubs settings items closed only) target body line w v) g1 m1 w.leaves refl (for_body_lies T P (steps m stubs settings items closed only) target body line w v) k1) u g mem asked
+  turns_go (call f given site line) (of_loop w) g mem asked = absurd w
+  turns_go (outside_call c) (of_loop w) g mem asked = absurd w
+  turns_go q (otherwise w) g mem asked = absurd w
+
+  -- ---- the run
+
+  ended_goes : (flow : Flow) (mem : Memory) → FlowAt T (module_round T top) piece.size tt mem flow → Holds (account T) Ended Left tt mem (tell_names (printed P))
+  ended_goes goes_on mem k = names_go (printed P) mem k
+  ended_goes breaks mem k = let z : ⊥ = cc in absurd z
+  ended_goes continues mem k = let z : ⊥ = cc in absurd z
+  ended_goes (returns v) mem k = absurd k.1
+
+  module_goes : Holds (account T) Ended Left tt no_memory (then_do (module_action P) (make_calls P []))
+  module_goes =
+      holds_then (account T) Ended Ended Left (module_action P) (make_calls P []) tt no_memory
+      (holds_bind (account T) (FlowAt T (module_round T top) piece.size) Ended Left (exec_all P P.body) (λ flow. tell_names (printed P)) tt no_memory
+      (body_goes T P (steps m stubs settings items closed only) P.body (module_round T top) 0 piece.size tt no_memory leaves (omega arith) lies begun) (λ flow g mem k. ended_goes flow mem k))
+      (λ u g mem k. k)
+
+  answer_goes : (n : ℕ) (choices : List ℕ) → HoldsAfter (account T) Ended Left (answer m stubs n choices [])
+  unfolding answer
+  answer_goes n choices =
+      runs_hold (account T) (lasts (s m stubs settings items closed) items (length m.names)) P (λ q way g mem always asked. turns_go q way g mem asked) Ended Left n (then_do (module_action P) (make_calls P [])) tt (start n choices)
+      (All-nil (λ e. IsTold (s m stubs settings items closed) items (length m.names) [] e)) module_goes
+
+  each_told : (a : Answer (Unit {0})) → HoldsAfter (account T) Ended Left a → All (IsTold (s m stubs settings items closed) items (length m.names) (run_of a).heap) (run_of a).events
+  each_told (gave u z) h = h.1
+  each_told (raised v z) h = h.1
+  each_told (stopped why z) h = h.1
+
+  pub run_told : (n : ℕ) (choices : List ℕ) → All (IsTold (s m stubs settings items closed) items (length m.names) (run_of (answer m stubs n choices [])).heap) (run_of (answer m stubs n choices [])).events
+  run_told n choices = each_told (answer m stubs n choices []) (answer_goes n choices)
