@@ -13,3 +13,4 @@ pub mod Built
 pub mod Instructions
 pub mod Following
 pub mod Running
+pub mod Belonging
