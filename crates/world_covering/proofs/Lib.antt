@@ -14,3 +14,4 @@ pub mod Instructions
 pub mod Following
 pub mod Running
 pub mod Belonging
+pub mod Covered
