@@ -1,5 +1,5 @@
 -- A value that stands for a shape belongs to each type that is printed for shapes with that one among them.
-use Rattle.std.proofs.Common.{◌≡◌, ℕ, ◌||◌, ◌&&◌, Bool, true, false, Option, Some, None, List, [], ◌∷◌, ◌++◌, inl, inr, refl, sym, ap, subst, ◌∙◌, slice_get}
+use Rattle.std.proofs.Common.{◌≡◌, ℕ, ◌||◌, ◌&&◌, true, false, Option, Some, List, [], ◌∷◌, ◌++◌, inl, inr, refl, sym, ap, subst, ◌∙◌, slice_get}
 use Rattle.std.specs.Prelude.{IsTrue}
 use Rattle.std.specs.Str.{bytes_eq}
 use Rattle.std.specs.List.{Contains, list_any}
@@ -18,8 +18,6 @@ use Rattle.abstract_shapes.specs.declared.shape.Row.TheVariants.{Builtin}
 use Rattle.abstract_shapes.specs.Printed.{Scene, a_callable, plain_type, row_type, by_sort, native_type, IsShapeType, of_plain, IsPrinted}
 use Rattle.world_rules.specs.Sources.{Source}
 use Rattle.world_rules.specs.Items.{Item}
-use Rattle.world_rules.specs.Stubs.{EndsWith, IsTypeOfName}
-use Rattle.py_meaning.specs.Values as value
 use Rattle.py_meaning.specs.Values.{Value, ref}
 use Rattle.py_meaning.specs.Objects as object
 use Rattle.py_meaning.specs.Objects.{Object, object_at}

@@ -1,11 +1,11 @@
 -- Which instructions stand in the code of the forms that are covered.
-use Rattle.std.proofs.Common.{◌≡◌, ℕ, ◌<◌, Bool, true, false, Option, Some, None, [], length, refl, ap, ◌∙◌}
+use Rattle.std.proofs.Common.{◌≡◌, ℕ, ◌<◌, Bool, true, false, Some, None, [], refl, ap, ◌∙◌}
 use Rattle.py_tree.specs.Tree as tree
 use Rattle.py_tree.specs.Tree.{Expr, node, Exprs, no_exprs, expr, statement, StmtKind, Stmts, no_stmts, stmt, Arms, no_arms, arm, Module}
-use Rattle.scope_rules.specs.WellFormed.{Surroundings, looped, IsFormed, AreFormed, IsFormedKind, AreFormedStmts, AreFormedArms, AreFormedHere, outside, IsWellFormed}
+use Rattle.scope_rules.specs.WellFormed.{Surroundings, IsFormed, IsFormedKind, AreFormedStmts, AreFormedArms, AreFormedHere}
 use Rattle.stack_code.specs.declared.op.Op.{Op}
 use Rattle.stack_code.specs.declared.op.Op.TheVariants as op
-use Rattle.tree_code.specs.Pieces.{Piece, nothing, one, ◌⨾◌, loop, fork}
+use Rattle.tree_code.specs.Pieces.{Piece, ◌⨾◌, loop, fork}
 use Rattle.tree_code.specs.Names.{kind_of}
 use Rattle.tree_code.specs.Expressions.{value}
 use Rattle.tree_code.specs.Programs.{in_module}

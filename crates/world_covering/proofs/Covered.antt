@@ -1,5 +1,5 @@
 -- The covering of runs, and what it says of a stub.
-use Rattle.std.proofs.Common.{◌≡◌, ℕ, zero, suc, Some, List, [], ◌∷◌, length, slice_get, refl, sym, subst}
+use Rattle.std.proofs.Common.{◌≡◌, ℕ, zero, suc, Some, List, [], length, slice_get, subst}
 use Rattle.std.specs.List.{Contains, All}
 use Rattle.py_tree.specs.Tree.{Module}
 use Rattle.type_terms.specs.Stubs.{Name, Stub}
@@ -9,7 +9,11 @@ use Rattle.tree_code.specs.Programs.{error_name}
 use Rattle.place_ids.specs.Names.{number_in}
 use Rattle.world_rules.specs.Items.{Item}
 use Rattle.world_rules.specs.Rules.{IsClosed}
-use Rattle.world_rules.specs.Stubs.{AreNames, no_names, a_name, IsTypeOfName}
+use Rattle.world_rules.specs.Stubs.{AreNames, no_names, a_name, IsStubOf, IsTypeOfName}
+use Rattle.py_meaning.specs.Belongs.{Belongs}
+use Rattle.py_meaning.specs.Values.{Value}
+use Rattle.std.proofs.lemmas.List.Elements.{All-contains}
+use Rattle.world_covering.proofs.Seats.{some_same}
 use Rattle.py_meaning.specs.Events.{Event, returned, held, fault}
 use Rattle.py_meaning.specs.Objects.{Object}
 use Rattle.py_meaning.specs.Programs.{Program, program}
@@ -35,3 +39,20 @@ unfolding run
 covered m stubs settings items closed formed none plain n choices =
     λ k e is. covered_event (source_of m stubs settings) items (length m.names) (program m stubs) (run_of (answer m stubs n choices [])).heap _
     (run_told m stubs settings items closed (module_built (length m.names) (number_in m.names error_name) m.body plain formed) plain (module_may m none) n choices k e is)
+
+-- ---- the stub
+
+-- the types of a stub are those of the names in their order
+type_at : (s : Source) (items : List Item) (names : List ℕ) (rows : List Name) → AreNames s items names rows → (place n : ℕ) (row : Name) → slice_get names place ≡ Some n → slice_get rows place ≡ Some row → IsTypeOfName s items n row.term
+type_at s items _ _ (no_names) place n row e f = cc
+type_at s items _ _ (a_name {n = k} {row = first} text named more) zero n row e f =
+    let same : k ≡ n = some_same e in
+    let alike : first ≡ row = some_same f in
+    subst (λ z. IsTypeOfName s items z row.term) same (subst (λ z. IsTypeOfName s items k z.term) alike named)
+type_at s items _ _ (a_name {ns = ns} {rows = rows} text named more) (suc place) n row e f = type_at s items ns rows more place n row e f
+
+pub in_stub : (s : Source) (items : List Item) (p : Program) (h : List Object) (events : List Event) → All (IsCovered s items p h) events → (stub : Stub) → IsStubOf s items stub →
+    (place n : ℕ) (v : Value) (row : Name) → slice_get s.scopes.printed place ≡ Some n → slice_get stub.names place ≡ Some row → Contains events (held n v) → Belongs p h row.term v
+in_stub s items p h events all stub is place n v row e f c =
+    let w : IsHeld s items p h n v = All-contains (IsCovered s items p h) events (held n v) all c in
+    w.belongs row.term (type_at s items s.scopes.printed stub.names is.names place n row e f)

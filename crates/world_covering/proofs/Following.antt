@@ -1,11 +1,10 @@
 -- Along the code of a module of the covered forms, every instruction keeps a walk of the run.
-use Rattle.std.proofs.Common.{◌≡◌, ℕ, zero, suc, ◌+◌, ◌<◌, Bool, true, false, not, Option, Some, None, List, [], ◌∷◌, ◌++◌, map, length, slice_get, refl, sym, ap, subst, ◌∙◌, arith, if◌then◌else◌}
+use Rattle.std.proofs.Common.{◌≡◌, ℕ, zero, suc, ◌+◌, ◌<◌, Bool, true, false, Option, Some, None, List, [], ◌∷◌, ◌++◌, length, slice_get, refl, sym, ap, subst, ◌∙◌, arith, if◌then◌else◌}
 use Rattle.std.specs.Prelude.{codes}
 use Rattle.std.specs.List.{Contains}
-use Rattle.std.specs.Option.{option_and_then}
 use Rattle.place_ids.specs.Names as names
 use Rattle.place_ids.specs.Names.{with_name, number_in}
-use Rattle.py_tree.specs.Tree.{Args, Members, Module, class_def}
+use Rattle.py_tree.specs.Tree.{Members, Module, class_def}
 use Rattle.type_terms.specs.Stubs.{Stub}
 use Rattle.scope_rules.specs.NameLists.{has_name, text_of, text_in}
 use Rattle.stack_code.specs.declared.code.Range.{Range}
@@ -14,8 +13,6 @@ use Rattle.stack_code.specs.declared.op.Op.TheVariants as op
 use Rattle.stack_code.specs.Effects.{goal_of}
 use Rattle.stack_code.specs.Validity.{IsValid}
 use Rattle.graph_walks.proofs.Lists.{first}
-use Rattle.abstract_shapes.specs.Shapes.{Shape}
-use Rattle.tree_code.specs.Expressions.{positionals, keywords}
 use Rattle.tree_code.specs.Programs.{in_module, error_name, module_code}
 use Rattle.tree_code.specs.Standing.{OpLies}
 use Rattle.tree_code.specs.Pieces.{one, ◌⨾◌}
@@ -29,9 +26,9 @@ use Rattle.world_rules.specs.declared.seat.Seat.TheVariants as seat
 use Rattle.world_rules.specs.declared.transfer.SeatReading.{SeatReading}
 use Rattle.world_rules.specs.declared.transfer.Transfer.{Transfer}
 use Rattle.world_rules.specs.declared.transfer.Transfer.TheVariants as transfer
-use Rattle.world_rules.specs.Places.{Context, main, slot, global, thread_of}
+use Rattle.world_rules.specs.Places.{Context, main, global, thread_of}
 use Rattle.world_rules.specs.Sources.{Source}
-use Rattle.world_rules.specs.Items.{Item, Agree, variables}
+use Rattle.world_rules.specs.Items.{Item}
 use Rattle.world_rules.specs.Readings.{own, builtin, global_read, nothing_read}
 use Rattle.world_rules.specs.Rows.{row_of}
 use Rattle.world_rules.specs.Rules.{readings_at, IsClosed}
@@ -41,14 +38,14 @@ use Rattle.type_terms.specs.Terms as type
 use Rattle.py_meaning.specs.Programs.{Program, program, text_at, is_bound}
 use Rattle.py_meaning.specs.Names.{found_or, builtin_value, value_in_frame}
 use Rattle.py_meaning.specs.Exceptions.{handled_or_error}
-use Rattle.py_meaning.specs.Actions.{Memory, Frame, Flow, Action, looks, with_new, raise_builtin}
+use Rattle.py_meaning.specs.Actions.{Memory, Flow, Action, looks, with_new}
 use Rattle.py_meaning.specs.Holds.{Holds}
 use Rattle.py_meaning.proofs.Holding.{holds_may_raise}
-use Rattle.tree_covering.specs.Trails.{Trail, Around, LiesIn, OpIn, At, ValueAt, SentOver}
+use Rattle.tree_covering.specs.Trails.{Trail, Around, LiesIn, OpIn, ValueAt, SentOver}
 use Rattle.tree_covering.specs.Turns.{account}
-use Rattle.tree_covering.specs.Follows.{Gives, Follows}
+use Rattle.tree_covering.specs.Follows.{Follows}
 use Rattle.tree_covering.proofs.OnlyOps.{OnlyOps, op_in_module}
-use Rattle.world_covering.specs.RowLaws.{Stays, Gave, IsFaultOf}
+use Rattle.world_covering.specs.RowLaws.{Stays, Gave}
 use Rattle.world_covering.specs.Sources.{Settings, source_of}
 use Rattle.world_covering.specs.Keeping.{code_in, IsSeated, Kept, Pending}
 use Rattle.world_covering.proofs.Built.{IsBuilt}
@@ -58,7 +55,7 @@ use Rattle.world_covering.proofs.Names.{kept_unbound, pending_unbound, stores_na
 use Rattle.world_covering.proofs.Rows.{gave}
 use Rattle.world_covering.proofs.RowsHold.{rows_hold}
 use Rattle.world_covering.proofs.Steps.{pending_at, pending_under, pushes}
-use Rattle.world_covering.proofs.Trails.{IsTold, covering, along}
+use Rattle.world_covering.proofs.Trails.{covering, along}
 
 -- ---- the program's names begin with the module's
 

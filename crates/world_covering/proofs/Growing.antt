@@ -1,5 +1,5 @@
 -- What stands for a shape goes on to, while the heap grows.
-use Rattle.std.proofs.Common.{◌≡◌, ℕ, zero, suc, Some, List, [], ◌∷◌, ◌++◌, length, slice_get, slice_set, unwrap_or, refl, sym, ap, ◌∙◌}
+use Rattle.std.proofs.Common.{◌≡◌, ℕ, zero, suc, Some, List, [], ◌∷◌, ◌++◌, length, slice_get, slice_set, unwrap_or, refl, ap, ◌∙◌}
 use Rattle.type_terms.specs.Terms as type
 use Rattle.abstract_shapes.specs.Shapes.{Shape}
 use Rattle.py_meaning.specs.Values.{Value}

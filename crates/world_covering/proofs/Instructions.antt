@@ -1,67 +1,51 @@
 -- Each instruction of the covered forms keeps a walk of the run.
-use Rattle.std.proofs.Common.{◌≡◌, ℕ, zero, suc, ◌+◌, ◌≤◌, ◌<◌, Bool, true, false, not, Option, Some, None, List, [], ◌∷◌, ◌++◌, length, slice_get, refl, sym, ap, subst, ◌∙◌, arith, if◌then◌else◌}
-use Rattle.std.specs.Prelude.{codes}
+use Rattle.std.proofs.Common.{◌≡◌, ℕ, zero, suc, ◌+◌, ◌≤◌, ◌<◌, Bool, true, false, not, Some, None, List, [], ◌∷◌, length, slice_get, refl, sym, subst, arith, if◌then◌else◌}
 use Rattle.std.specs.List.{Contains}
 use Rattle.place_ids.specs.declared.operators.BinOp.{BinOp}
 use Rattle.place_ids.specs.declared.operators.CompareOp.{CompareOp}
 use Rattle.place_ids.specs.declared.operators.UnaryOp.{UnaryOp}
 use Rattle.py_tree.specs.declared.literal.Literal.{Literal}
 use Rattle.py_tree.specs.declared.literal.Literal.TheVariants as literal
-use Rattle.py_tree.specs.Tree.{Module}
-use Rattle.type_terms.specs.Stubs.{Stub}
-use Rattle.type_terms.specs.Terms as type
-use Rattle.scope_rules.specs.NameLists.{has_name, text_of}
-use Rattle.stack_code.specs.declared.code.Code.{Code}
-use Rattle.stack_code.specs.declared.code.Range.{Range}
 use Rattle.stack_code.specs.declared.op.Op.{Op}
 use Rattle.stack_code.specs.declared.op.Op.TheVariants as op
-use Rattle.stack_code.specs.Effects.{effect_of, falls, goal_of, may_raise, depth_after, depth_at_goal}
-use Rattle.stack_code.specs.Validity.{IsValid}
-use Rattle.graph_walks.specs.Worlds.{Test, MayBeTrue, MayBeFalse}
+use Rattle.stack_code.specs.Effects.{effect_of, falls, may_raise, depth_after}
+use Rattle.graph_walks.specs.Worlds.{MayBeTrue, MayBeFalse}
 use Rattle.graph_walks.specs.Walks.{Answers, unasked, passes}
 use Rattle.graph_walks.proofs.Lists.{first}
 use Rattle.abstract_shapes.specs.Shapes as shape
 use Rattle.abstract_shapes.specs.Shapes.{Shape}
 use Rattle.tree_code.specs.Names.{kind_of}
-use Rattle.tree_code.specs.Standing.{OpLies}
-use Rattle.world_rules.specs.declared.row.TransferRow.{TransferRow}
-use Rattle.world_rules.specs.declared.row.Yield.{Yield}
 use Rattle.world_rules.specs.declared.row.Yield.TheVariants as yields
-use Rattle.world_rules.specs.declared.seat.OwnedSeat.{OwnedSeat}
-use Rattle.world_rules.specs.declared.seat.Seat.TheVariants as seat
 use Rattle.world_rules.specs.declared.transfer.SeatReading.{SeatReading}
 use Rattle.world_rules.specs.declared.transfer.Transfer.{Transfer}
 use Rattle.world_rules.specs.declared.transfer.Transfer.TheVariants as transfer
 use Rattle.world_rules.specs.Places.{Context, main, Variable, slot, global, thread_of, written}
 use Rattle.world_rules.specs.Sources.{Source}
-use Rattle.world_rules.specs.Branches.{Branch, branch, fall_test, ask_top, is_call}
+use Rattle.world_rules.specs.Branches.{fall_test, ask_top, is_call}
 use Rattle.world_rules.specs.Items.{Item, Agree, variables, world_of}
-use Rattle.world_rules.specs.Readings.{own, slot_below, constant, builtin, global_read, nothing_read, readings}
+use Rattle.world_rules.specs.Readings.{slot_below, constant}
 use Rattle.world_rules.specs.Rows.{row_of, made}
 use Rattle.world_rules.specs.Rules.{readings_at, IsClosed}
-use Rattle.py_meaning.specs.Values.{Value, literal_value, truth, entry}
+use Rattle.py_meaning.specs.Values.{Value, literal_value, truth}
 use Rattle.py_meaning.specs.Objects as object
-use Rattle.py_meaning.specs.Events.{Event}
-use Rattle.py_meaning.specs.Programs.{Program, text_at, is_bound}
+use Rattle.py_meaning.specs.Programs.{Program}
 use Rattle.py_meaning.specs.Truth.{truth_of}
 use Rattle.py_meaning.specs.Operators as meaning
 use Rattle.py_meaning.specs.Targets.{in_place}
-use Rattle.py_meaning.specs.Names.{found_or, builtin_value, value_in_frame, global_value}
-use Rattle.py_meaning.specs.Actions.{Memory, with_new, Flow, Action, gives, bind}
+use Rattle.py_meaning.specs.Actions.{Memory, Action, gives, bind}
 use Rattle.py_meaning.specs.Holds.{Holds}
-use Rattle.tree_covering.specs.Trails.{Trail, Around, OpIn, At, ValueAt, SentOver}
+use Rattle.tree_covering.specs.Trails.{Trail, Around, OpIn, ValueAt, SentOver}
 use Rattle.tree_covering.specs.Turns.{account}
 use Rattle.tree_covering.specs.Follows.{Gives, ChoiceAt}
 use Rattle.world_covering.specs.Standing.{Stands, a_none, a_true, a_false, an_int, a_float, a_text, some_bytes}
-use Rattle.world_covering.specs.RowLaws.{turnless, Stays, Gave, IsFaultOf, Keeps, Passes}
-use Rattle.world_covering.specs.Keeping.{Shapes, code_in, IsSeated, AreSeated, Kept, Pending}
-use Rattle.world_covering.proofs.Growing.{stays_here, stays_new}
+use Rattle.world_covering.specs.RowLaws.{Stays, Gave, IsFaultOf, Keeps, Passes}
+use Rattle.world_covering.specs.Keeping.{code_in, IsSeated, Kept}
 use Rattle.world_covering.proofs.RowsHold.{rows_hold}
 use Rattle.world_covering.proofs.Rows.{gave}
 use Rattle.world_covering.proofs.Seats.{seat_of}
-use Rattle.world_covering.proofs.Steps.{pending_at, pending_under, reported, pushes, drops, leaps}
+use Rattle.world_covering.proofs.Steps.{pending_at, reported, pushes, drops, leaps}
 use Rattle.world_covering.proofs.Trails.{IsTold, covering, along}
-use Rattle.world_covering.proofs.Truths.{Tested, tested}
+use Rattle.world_covering.proofs.Truths.{tested}
 
 module _ (s : Source) (items : List Item) (error : ℕ) (closed : IsClosed s items) where
   abbrev t : Trail
@@ -73,9 +57,9 @@ module _ (s : Source) (items : List Item) (error : ℕ) (closed : IsClosed s ite
   -- ---- two operands
 
   module _ (x : Around t) (o : Op) (rule : Transfer) (v w : Value) (action : ℕ → Action Value) (may : may_raise o ≡ true) (f : falls o ≡ true) (n : is_call o ≡ false) (q : fall_test o ≡ None)
-           (needs : (d : ℕ) → (effect_of o).needs ≤ suc (suc d)) (after : (d : ℕ) → depth_after o (suc (suc d)) ≡ suc d) (writes : (d : ℕ) → written s.program x.context (suc (suc d)) o ≡ Some (slot x.context d))
-           (reads : (d : ℕ) → readings_at s x.context (suc (suc d)) o ≡ record { seats = slot_below (suc (suc d)) 1 ∷ slot_below (suc (suc d)) 0 ∷ []; transfer = rule } ∷ [])
-           (keeps : (line : ℕ) (tv tw : Shape) (m : Memory) → Stands m.heap v tv → Stands m.heap w tw → Keeps rule (tv ∷ tw ∷ []) line m (action line)) where
+      (needs : (d : ℕ) → (effect_of o).needs ≤ suc (suc d)) (after : (d : ℕ) → depth_after o (suc (suc d)) ≡ suc d) (writes : (d : ℕ) → written s.program x.context (suc (suc d)) o ≡ Some (slot x.context d))
+      (reads : (d : ℕ) → readings_at s x.context (suc (suc d)) o ≡ record { seats = slot_below (suc (suc d)) 1 ∷ slot_below (suc (suc d)) 0 ∷ []; transfer = rule } ∷ [])
+      (keeps : (line : ℕ) (tv tw : Shape) (m : Memory) → Stands m.heap v tv → Stands m.heap w tw → Keeps rule (tv ∷ tw ∷ []) line m (action line)) where
     two_operands : Gives t x o (w ∷ v ∷ []) action
     two_operands place line stack g m l k =
         let shapes : List Shape = k.slots.1.0.shape ∷ k.slots.0.shape ∷ [] in
@@ -92,9 +76,9 @@ module _ (s : Source) (items : List Item) (error : ℕ) (closed : IsClosed s ite
   -- ---- one operand
 
   module _ (x : Around t) (o : Op) (rule : Transfer) (v : Value) (action : ℕ → Action Value) (may : may_raise o ≡ true) (f : falls o ≡ true) (n : is_call o ≡ false) (q : fall_test o ≡ None)
-           (needs : (d : ℕ) → (effect_of o).needs ≤ suc d) (after : (d : ℕ) → depth_after o (suc d) ≡ suc d) (writes : (d : ℕ) → written s.program x.context (suc d) o ≡ Some (slot x.context d))
-           (reads : (d : ℕ) → readings_at s x.context (suc d) o ≡ record { seats = slot_below (suc d) 0 ∷ []; transfer = rule } ∷ [])
-           (keeps : (line : ℕ) (tv : Shape) (m : Memory) → Stands m.heap v tv → Keeps rule (tv ∷ []) line m (action line)) where
+      (needs : (d : ℕ) → (effect_of o).needs ≤ suc d) (after : (d : ℕ) → depth_after o (suc d) ≡ suc d) (writes : (d : ℕ) → written s.program x.context (suc d) o ≡ Some (slot x.context d))
+      (reads : (d : ℕ) → readings_at s x.context (suc d) o ≡ record { seats = slot_below (suc d) 0 ∷ []; transfer = rule } ∷ [])
+      (keeps : (line : ℕ) (tv : Shape) (m : Memory) → Stands m.heap v tv → Keeps rule (tv ∷ []) line m (action line)) where
     one_operand : Gives t x o (v ∷ []) action
     one_operand place line stack g m l k =
         let shapes : List Shape = k.slots.0.shape ∷ [] in

@@ -1,5 +1,5 @@
 -- Names of the module: what is stored, and what is unbound.
-use Rattle.std.proofs.Common.{◌≡◌, ℕ, suc, ◌≤◌, Bool, true, false, Option, Some, None, List, [], ◌∷◌, length, refl, sym, ap, subst, ◌∙◌, arith}
+use Rattle.std.proofs.Common.{◌≡◌, ℕ, suc, Option, Some, None, List, [], ◌∷◌, length, refl, sym, ap, subst, ◌∙◌, arith}
 use Rattle.std.specs.List.{Contains}
 use Rattle.graph_walks.specs.Walks.{Walk, unasked}
 use Rattle.graph_walks.proofs.Lists.{first}
@@ -12,19 +12,19 @@ use Rattle.tree_code.specs.Standing.{OpLies}
 use Rattle.world_rules.specs.declared.row.Yield.TheVariants as yields
 use Rattle.world_rules.specs.declared.transfer.SeatReading.{SeatReading}
 use Rattle.world_rules.specs.declared.transfer.Transfer.TheVariants as transfer
-use Rattle.world_rules.specs.Places.{Context, Variable, slot, global, at}
+use Rattle.world_rules.specs.Places.{Context, global, at}
 use Rattle.world_rules.specs.Sources.{Source}
 use Rattle.world_rules.specs.Items.{Item, world_of}
 use Rattle.world_rules.specs.Readings.{slot_below}
 use Rattle.world_rules.specs.Rules.{HasPlace, Stands as OpStands, it, IsClosed}
 use Rattle.world_rules.specs.Memories.{updated}
 use Rattle.world_rules.proofs.Extending.{assigns_on}
-use Rattle.py_meaning.specs.Values.{Value, entry, with_entry, without_entry}
+use Rattle.py_meaning.specs.Values.{Value, with_entry, without_entry}
 use Rattle.py_meaning.specs.Programs.{Program}
 use Rattle.py_meaning.specs.Names.{with_globals, changed_in_frame, bound, unbound}
 use Rattle.py_meaning.specs.Actions.{Memory, Scope, with_scope}
 use Rattle.world_covering.specs.Standing.{Stands}
-use Rattle.world_covering.specs.Keeping.{Shapes, code_in, IsSeated, AreSeated, Kept, Pending}
+use Rattle.world_covering.specs.Keeping.{code_in, IsSeated, Kept, Pending}
 use Rattle.world_covering.proofs.Seats.{at_new, seats_beside, Stored, new, old, stored, left}
 use Rattle.world_covering.proofs.Steps.{op_stands, target_is, next_place}
 

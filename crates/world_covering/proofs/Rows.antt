@@ -1,32 +1,16 @@
 -- The operations of the meaning against the rows of the rules. Both read the tables of builtins.
-use Rattle.std.proofs.Common.{◌≡◌, ℕ, zero, suc, ◌<◌, ◌%◌, ◌||◌, Bool, true, false, not, List, [], ◌∷◌, ◌++◌, map, length, Option, Some, None, slice_get, unwrap_or, ◌⊎◌, inl, inr, refl, sym, ap, subst, ◌∙◌, arith, if◌then◌else◌}
+use Rattle.std.proofs.Common.{◌≡◌, ℕ, zero, suc, ◌<◌, ◌%◌, ◌||◌, Bool, true, false, List, [], ◌∷◌, ◌++◌, length, Option, Some, None, slice_get, unwrap_or, ◌⊎◌, inl, inr, refl, sym, ap, subst, ◌∙◌, arith, if◌then◌else◌}
 use Rattle.std.specs.Prelude.{codes, pos, option_map}
-use Rattle.std.specs.Str.{bytes_eq}
-use Rattle.std.specs.List.{Contains, flat_map, list_all, list_any}
+use Rattle.std.specs.List.{Contains, flat_map, list_all}
 use Rattle.std.proofs.lemmas.Nat.{mod_below}
 use Rattle.std.proofs.lemmas.List.Elements.{Contains-append_left, Contains-append_right}
 use Rattle.place_ids.specs.declared.operators.BinOp.{BinOp}
-use Rattle.place_ids.specs.declared.operators.BinOp.TheVariants as bin
 use Rattle.place_ids.specs.declared.operators.CompareOp.{CompareOp}
-use Rattle.place_ids.specs.declared.operators.CompareOp.TheVariants as cmp
-use Rattle.place_ids.specs.declared.operators.UnaryOp.{UnaryOp}
 use Rattle.builtin_stubs.specs.declared.basic.Basic.{Basic}
 use Rattle.builtin_stubs.specs.declared.basic.Basic.TheVariants as kind
-use Rattle.builtin_stubs.specs.declared.kinds.Sameness.{Sameness}
-use Rattle.builtin_stubs.specs.declared.kinds.Sameness.TheVariants as sameness
-use Rattle.builtin_stubs.specs.declared.native.NativeSort.{NativeSort}
-use Rattle.builtin_stubs.specs.declared.native.NativeSort.TheVariants as sort
-use Rattle.builtin_stubs.specs.Kinds.{identity}
-use Rattle.builtin_stubs.specs.Meanings.{Native}
-use Rattle.builtin_stubs.specs.Natives.{natives, function_number}
-use Rattle.builtin_stubs.specs.Operators.{op_kinds, unary_kinds, order_kinds, looks_within}
-use Rattle.builtin_stubs.specs.Outside.{outside_names}
+use Rattle.builtin_stubs.specs.Operators.{op_kinds, order_kinds, looks_within}
 use Rattle.type_terms.specs.Terms as type
-use Rattle.flow_graph.specs.declared.edge.Truth.{Truth}
-use Rattle.flow_graph.specs.declared.edge.Truth.TheVariants as truths
-use Rattle.graph_walks.specs.Worlds as worlds
 use Rattle.graph_walks.proofs.Lists.{empty, first, later, first_or_later, got}
-use Rattle.abstract_shapes.specs.declared.shape.Row.TheVariants.{Builtin}
 use Rattle.abstract_shapes.specs.Shapes as shape
 use Rattle.abstract_shapes.specs.Shapes.{Shape}
 use Rattle.world_rules.specs.declared.finding.Fault.{Fault}
@@ -34,33 +18,26 @@ use Rattle.world_rules.specs.declared.finding.Fault.TheVariants as faults
 use Rattle.world_rules.specs.declared.row.TransferRow.{TransferRow}
 use Rattle.world_rules.specs.declared.row.Yield.{Yield}
 use Rattle.world_rules.specs.declared.row.Yield.TheVariants as yields
-use Rattle.world_rules.specs.declared.transfer.Transfer.{Transfer}
-use Rattle.world_rules.specs.declared.transfer.Transfer.TheVariants as transfer
-use Rattle.world_rules.specs.Items.{truth_as}
 use Rattle.world_rules.specs.Operators as rules
 use Rattle.world_rules.specs.Operators.{by_kinds, both_truths, unfollowed}
-use Rattle.world_rules.specs.Readings.{builtin, unknown, native_yield}
-use Rattle.world_rules.specs.Rows.{row_of, made}
+use Rattle.world_rules.specs.Rows.{made}
 use Rattle.world_rules.specs.Traits.{traits_of, is_unfollowed, is_any, is_anything}
 use Rattle.py_meaning.specs.Values as value
 use Rattle.py_meaning.specs.Values.{Value, ref}
 use Rattle.py_meaning.specs.Objects as object
 use Rattle.py_meaning.specs.Objects.{Object, object_at, kind_of, is_unfollowed_at, is_anything_at}
-use Rattle.py_meaning.specs.Events.{Event, fault, unsupported_operands, on_another}
+use Rattle.py_meaning.specs.Events.{unsupported_operands}
 use Rattle.py_meaning.specs.Programs.{Program}
 use Rattle.py_meaning.specs.Fresh as fresh
 use Rattle.py_meaning.specs.Contents.{Content, contents_at}
-use Rattle.py_meaning.specs.Truth.{truth_of, truth_of_object, is_zero}
 use Rattle.py_meaning.specs.Operators as meaning
-use Rattle.py_meaning.specs.Targets.{in_place, in_place_object}
-use Rattle.py_meaning.specs.Names.{builtin_value, native_value}
-use Rattle.py_meaning.specs.Actions.{Memory, with_new, Action, takes, gives, bind, allocate, anything, pick, one_of, fails, is_even, either_truth}
+use Rattle.py_meaning.specs.Actions.{Memory, Action, anything, one_of, fails, is_even, either_truth}
 use Rattle.py_meaning.specs.Holds.{Account, Holds}
-use Rattle.py_meaning.proofs.Holding.{holds_bind, holds_map}
+use Rattle.py_meaning.proofs.Holding.{holds_bind}
 use Rattle.world_covering.specs.Standing.{Stands, a_none, a_true, a_false, an_int, a_float, a_text, some_bytes, from_outside, a_native}
-use Rattle.world_covering.specs.RowLaws.{turnless, Stays, Gave, IsFaultOf, Keeps, Passes, IsTested, RowsHold}
+use Rattle.world_covering.specs.RowLaws.{turnless, Stays, Gave, IsFaultOf}
 use Rattle.world_covering.proofs.Growing.{got_last, at_object, stays_here, stays_new}
-use Rattle.world_covering.proofs.Tables.{is_simple, are_simple, plain_kinds, both, op_simple, order_simple, unary_simple}
+use Rattle.world_covering.proofs.Tables.{is_simple, are_simple, plain_kinds, both, op_simple, order_simple}
 
 -- ---- what operators see of a value is what they see of its shape
 
@@ -214,7 +191,7 @@ module _ (shapes : List Shape) (line : ℕ) (v w : Value) (t u : Shape) (m : Mem
 
   -- both sides by one table of pairs of kinds
   module _ (f : Fault) (step : Basic → Action Value) (steps : (k : Basic) → is_simple k ≡ true → step k ≡ fresh.of_kind k) (table : Basic → Basic → Option (List Basic))
-           (simple : are_simple (table (traits_of t).kind (traits_of u).kind) ≡ true) where
+      (simple : are_simple (table (traits_of t).kind (traits_of u).kind) ≡ true) where
     abbrev pair_row : Bool → TransferRow
     pair_row any = if either_unfollowed then unfollowed any else by_kinds f (table (traits_of t).kind (traits_of u).kind)
 

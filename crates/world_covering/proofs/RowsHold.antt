@@ -1,10 +1,8 @@
 -- All operations keep to the rows of their rules.
-use Rattle.std.proofs.Common.{◌≡◌, ℕ, Bool, true, false, not, Option, Some, None, List, [], ◌∷◌, refl, sym, subst, if◌then◌else◌}
+use Rattle.std.proofs.Common.{◌≡◌, ℕ, Bool, false, not, Option, Some, None, [], ◌∷◌, refl, sym, subst, if◌then◌else◌}
 use Rattle.std.specs.Prelude.{option_map}
-use Rattle.std.specs.List.{Contains}
 use Rattle.graph_walks.proofs.Lists.{got}
 use Rattle.place_ids.specs.declared.operators.BinOp.{BinOp}
-use Rattle.place_ids.specs.declared.operators.BinOp.TheVariants as bin
 use Rattle.place_ids.specs.declared.operators.CompareOp.{CompareOp}
 use Rattle.place_ids.specs.declared.operators.CompareOp.TheVariants as cmp
 use Rattle.place_ids.specs.declared.operators.UnaryOp.{UnaryOp}
@@ -18,7 +16,7 @@ use Rattle.world_rules.specs.declared.row.Yield.TheVariants as yields
 use Rattle.world_rules.specs.declared.transfer.Transfer.TheVariants as transfer
 use Rattle.world_rules.specs.Operators as rules
 use Rattle.world_rules.specs.Operators.{both_truths, by_kinds, unfollowed}
-use Rattle.world_rules.specs.Traits.{traits_of, is_unfollowed, is_any}
+use Rattle.world_rules.specs.Traits.{traits_of, is_unfollowed}
 use Rattle.py_meaning.specs.Values.{Value, ref}
 use Rattle.py_meaning.specs.Objects as object
 use Rattle.py_meaning.specs.Objects.{Object, kind_of, is_unfollowed_at}

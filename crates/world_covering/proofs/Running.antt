@@ -1,39 +1,37 @@
 -- A run of a module of the covered forms, turn by turn, to its end: each event is told rightly.
-use Rattle.std.proofs.Common.{◌≡◌, ℕ, suc, ◌+◌, ◌<◌, Bool, true, false, ◌&&◌, is_some, Option, Some, None, List, [], ◌∷◌, length, slice_get, ◌⊎◌, inl, inr, refl, sym, ap, subst, ◌∙◌, arith}
+use Rattle.std.proofs.Common.{◌≡◌, ℕ, Bool, true, false, ◌&&◌, is_some, Option, Some, None, List, [], ◌∷◌, length, slice_get, inl, refl, sym, subst, arith}
 use Rattle.std.specs.Prelude.{IsTrue}
 use Rattle.std.specs.List.{Contains, All}
 use Rattle.std.proofs.lemmas.List.Elements.{All-nil}
-use Rattle.py_tree.specs.Tree.{Expr, Stmts, Module}
+use Rattle.py_tree.specs.Tree.{Module}
 use Rattle.type_terms.specs.Stubs.{Stub}
 use Rattle.scope_rules.specs.Jumps.{jumps}
 use Rattle.graph_walks.specs.Worlds.{nothing}
-use Rattle.graph_walks.specs.Walks.{Walk, start as begin_walk, Visible}
+use Rattle.graph_walks.specs.Walks.{start as begin_walk, Visible}
 use Rattle.stack_code.specs.declared.op.Op.{Op}
 use Rattle.stack_code.specs.declared.op.Op.TheVariants as op
 use Rattle.stack_code.specs.Depths.{HasDepth, begins}
-use Rattle.tree_code.specs.Programs.{no_loop, in_module, module_code, last_line}
-use Rattle.tree_code.specs.Pieces.{Piece, instr}
-use Rattle.tree_code.specs.Standing.{Lies, InstrsAt}
+use Rattle.tree_code.specs.Programs.{no_loop, in_module, module_code}
+use Rattle.tree_code.specs.Pieces.{Piece}
+use Rattle.tree_code.specs.Standing.{Lies}
 use Rattle.tree_code.specs.Statements.{body_code}
 use Rattle.tree_code.proofs.Bodies.{module_lies, module_ends}
 use Rattle.world_rules.specs.Places.{main, global, at, op_at}
 use Rattle.world_rules.specs.Items.{Item, a_context, has_context, is_root, world_of}
 use Rattle.world_rules.specs.Rules.{of_module, IsClosed}
-use Rattle.world_rules.specs.Stubs.{EndsWith}
 use Rattle.world_rules.proofs.Extending.{within}
 use Rattle.world_rules.proofs.Members.{item_context}
 use Rattle.py_meaning.specs.Values.{Value, entry}
-use Rattle.py_meaning.specs.Events.{held}
 use Rattle.py_meaning.specs.Programs.{Program, printed}
 use Rattle.py_meaning.specs.Statements.{exec_all}
 use Rattle.py_meaning.specs.Calls.{perform}
-use Rattle.py_meaning.specs.Actions.{Memory, Flow, goes_on, breaks, continues, returns, Request, call, while_turn, for_turn, outside_call, Action, then_do, done}
-use Rattle.py_meaning.specs.Runs.{turns_within, carry_out, start, no_memory, tell_if, tell_names, module_action, make_calls, Answer, gave, raised, stopped, run_of, answer}
+use Rattle.py_meaning.specs.Actions.{Memory, Flow, goes_on, breaks, continues, returns, Request, call, while_turn, for_turn, outside_call, then_do}
+use Rattle.py_meaning.specs.Runs.{start, no_memory, tell_if, tell_names, module_action, make_calls, Answer, gave, raised, stopped, run_of, answer}
 use Rattle.py_meaning.specs.Holds.{Holds, HoldsAfter}
 use Rattle.py_meaning.proofs.Holding.{holds_bind, holds_then, GaveInside, RaisedInside, runs_hold}
 use Rattle.tree_covering.specs.Leaving.{MayStand}
-use Rattle.tree_covering.specs.Trails.{Trail, Around, Round, LiesIn, At, DoneAt, SentOver, place_of, FlowAt}
-use Rattle.tree_covering.specs.Turns.{LoopWay, LoopAsked, TurnWay, of_loop, otherwise, TurnAsked, account}
+use Rattle.tree_covering.specs.Trails.{Trail, Around, LiesIn, DoneAt, SentOver, FlowAt}
+use Rattle.tree_covering.specs.Turns.{TurnWay, of_loop, otherwise, TurnAsked, account}
 use Rattle.tree_covering.specs.Modules.{module_round}
 use Rattle.tree_covering.proofs.Loops.{while_inner, while_back, while_body_lies, while_performs, for_inner, for_start, for_back, for_body_lies, for_performs}
 use Rattle.tree_covering.proofs.OnlyOps.{OnlyOps}
@@ -43,7 +41,7 @@ use Rattle.world_covering.specs.Sources.{Settings, source_of}
 use Rattle.world_covering.specs.Keeping.{IsSeated, Kept}
 use Rattle.world_covering.specs.Covering.{IsEnding}
 use Rattle.world_covering.proofs.Built.{IsBuilt, same_body}
-use Rattle.world_covering.proofs.Following.{s, p, error, no_name, t, steps}
+use Rattle.world_covering.proofs.Following.{s, p, error, t, steps}
 use Rattle.world_covering.proofs.Trails.{IsTold, lasts}
 
 both : (a b : Bool) → a ≡ true → b ≡ true → IsTrue (a && b)
@@ -54,7 +52,7 @@ some_first [] k o e = cc
 some_first (x ∷ xs) k o e = refl
 
 module _ (m : Module) (stubs : List (List ℕ × Stub)) (settings : Settings) (items : List Item) (closed : IsClosed (source_of m stubs settings) items) (only : OnlyOps (IsBuilt (length m.names)) (body_code (in_module (error m stubs settings items closed)) m.body))
-         (plain : IsPlainBody m.body) (leaves : MayStand false (jumps false m.body)) where
+    (plain : IsPlainBody m.body) (leaves : MayStand false (jumps false m.body)) where
   abbrev T : Trail
   T = t m stubs settings items closed
 
@@ -109,7 +107,7 @@ module _ (m : Module) (stubs : List (List ℕ × Stub)) (settings : Settings) (i
   ending n v mem k e =
       let y : IsSeated k.shapes mem.heap (global n) v = k.globals n v e in
       let seen : Visible (world_of (s m stubs settings items closed) items) (at main piece.size 0) (Rattle.world_rules.specs.Items.map_of (global n ∷ []) (y.shape ∷ [])) =
-          record { memory = k.shapes; walk = k.walk; holds = record { at = within k.shapes (global n ∷ []) (y.shape ∷ []) (y.has, tt) } } in
+      record { memory = k.shapes; walk = k.walk; holds = record { at = within k.shapes (global n ∷ []) (y.shape ∷ []) (y.has, tt) } } in
       record {
         shape = y.shape;
         ends = record {

@@ -1,6 +1,5 @@
 -- `is`, on values that stand for shapes.
-use Rattle.std.proofs.Common.{◌≡◌, ℕ, ◌||◌, ◌&&◌, Bool, true, false, not, List, [], ◌∷◌, Option, Some, None, refl, sym, ap, subst, ◌∙◌, if◌then◌else◌}
-use Rattle.std.specs.Prelude.{option_map}
+use Rattle.std.proofs.Common.{◌≡◌, ◌||◌, ◌&&◌, Bool, true, false, List, Option, Some, None, refl, ap, subst, ◌∙◌, if◌then◌else◌}
 use Rattle.std.specs.List.{Contains, list_all}
 use Rattle.builtin_stubs.specs.declared.basic.Basic.{Basic}
 use Rattle.builtin_stubs.specs.declared.basic.Basic.TheVariants as kind
@@ -15,9 +14,8 @@ use Rattle.py_meaning.specs.Values as value
 use Rattle.py_meaning.specs.Values.{Value}
 use Rattle.py_meaning.specs.Objects.{Object, kind_of, is_anything_at}
 use Rattle.py_meaning.specs.Operators as meaning
-use Rattle.py_meaning.specs.Actions.{Memory}
 use Rattle.world_covering.specs.Standing.{Stands, a_none, a_true, a_false, an_int, a_float, a_text, some_bytes, from_outside, a_native}
-use Rattle.world_covering.proofs.Rows.{Sight, sight, ByRow, known}
+use Rattle.world_covering.proofs.Rows.{Sight, sight}
 use Rattle.world_covering.proofs.Tables.{plain_kinds, both, each}
 
 -- truth values alone are the same where they are equal

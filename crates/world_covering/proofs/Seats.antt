@@ -1,13 +1,13 @@
 -- Seats while walks go on: a shape that changes is that of one variable alone.
-use Rattle.std.proofs.Common.{◌≡◌, ◌≢◌, ℕ, zero, suc, ◌<◌, ◌≤◌, Bool, true, false, ◌&&◌, ◌==◌, Option, Some, None, List, [], ◌∷◌, ◌++◌, length, slice_get, refl, sym, ap, subst, ◌∙◌, arith, if◌then◌else◌}
+use Rattle.std.proofs.Common.{◌≡◌, ◌≢◌, ℕ, zero, suc, ◌<◌, ◌≤◌, Bool, true, false, ◌&&◌, ◌==◌, Some, None, List, [], ◌∷◌, ◌++◌, length, slice_get, refl, sym, ap, subst, ◌∙◌, arith, if◌then◌else◌}
 use Rattle.std.proofs.lemmas.Bool.Decides.{nat_tests}
 use Rattle.abstract_shapes.specs.Shapes.{Shape}
-use Rattle.world_rules.specs.Places.{Context, Variable, slot, global, slots_left, same_context, same_variable}
+use Rattle.world_rules.specs.Places.{Context, Variable, slot, global, slots_left, same_context}
 use Rattle.world_rules.specs.Memories.{updated}
 use Rattle.world_rules.proofs.Same.{variable_same}
 use Rattle.py_meaning.specs.Values.{Value, Entries, entry, with_entry, without_entry}
 use Rattle.py_meaning.specs.Objects.{Object}
-use Rattle.world_covering.specs.Standing.{Stands, Grows}
+use Rattle.world_covering.specs.Standing.{Grows}
 use Rattle.world_covering.specs.Keeping.{Shapes, IsSeated, AreSeated}
 use Rattle.world_covering.proofs.Growing.{stands_on}
 

@@ -2,36 +2,31 @@
 use Rattle.std.proofs.Common.{◌≡◌, ◌≢◌, ℕ, suc, ◌≤◌, ◌<◌, Bool, true, false, Option, Some, None, List, [], ◌∷◌, ◌++◌, length, slice_get, unwrap_or, refl, sym, ap, subst, ◌∙◌, append_assoc}
 use Rattle.std.specs.List.{Contains}
 use Rattle.std.specs.Option.{option_and_then}
-use Rattle.graph_walks.specs.Worlds.{Test, PassesBy}
-use Rattle.graph_walks.specs.Walks.{Walk, Answers, unasked, passes}
-use Rattle.stack_code.specs.declared.code.Code.{Code}
+use Rattle.graph_walks.specs.Walks.{Walk, Answers, unasked}
 use Rattle.stack_code.specs.declared.code.Range.{Range}
 use Rattle.stack_code.specs.declared.op.Op.{Op}
-use Rattle.stack_code.specs.Effects.{effect_of, falls, goal_of, may_raise, depth_after, depth_at_goal}
+use Rattle.stack_code.specs.Effects.{effect_of, falls, may_raise, depth_after, depth_at_goal}
 use Rattle.abstract_shapes.specs.Shapes.{Shape}
 use Rattle.tree_code.specs.Standing.{OpLies}
 use Rattle.world_rules.specs.declared.finding.Fault.{Fault}
 use Rattle.world_rules.specs.declared.finding.FaultText.{FaultText}
 use Rattle.world_rules.specs.declared.transfer.SeatReading.{SeatReading}
-use Rattle.world_rules.specs.declared.row.Yield.{Yield}
-use Rattle.world_rules.specs.Places.{Context, main, Variable, slot, global, at, code_of, op_at, written, target_of}
+use Rattle.world_rules.specs.Places.{Context, Variable, slot, global, at, written, target_of}
 use Rattle.world_rules.specs.Sources.{Source}
 use Rattle.world_rules.specs.Branches.{Branch, branch, fall_test, ask_top, is_call}
-use Rattle.world_rules.specs.Items.{Item, a_context, Agree, variables, world_of}
-use Rattle.world_rules.specs.Rows.{row_of, made}
+use Rattle.world_rules.specs.Items.{Item, Agree, variables, world_of}
+use Rattle.world_rules.specs.Rows.{row_of}
 use Rattle.world_rules.specs.Rules.{HasPlace, Stands as OpStands, readings_at, it, IsClosed}
-use Rattle.world_rules.specs.Findings.{line_of, IsReported, by_finding}
+use Rattle.world_rules.specs.Findings.{IsReported, by_finding}
 use Rattle.world_rules.specs.Memories.{updated}
 use Rattle.world_rules.specs.Texts.{fault_text}
 use Rattle.world_rules.proofs.Counted.{fall_place, jump_place}
 use Rattle.world_rules.proofs.Extending.{assigns_on, passes_on, jumps_on, told}
 use Rattle.py_meaning.specs.Values.{Value}
-use Rattle.py_meaning.specs.Objects.{Object}
 use Rattle.py_meaning.specs.Actions.{Memory}
-use Rattle.world_covering.specs.Standing.{Stands}
 use Rattle.world_covering.specs.RowLaws.{Stays, Gave}
-use Rattle.world_covering.specs.Keeping.{Shapes, code_in, IsSeated, AreSeated, Kept, Pending}
-use Rattle.world_covering.proofs.Seats.{some_same, seat_on, seats_on, seats_below, at_new, seats_beside}
+use Rattle.world_covering.specs.Keeping.{code_in, IsSeated, AreSeated, Kept, Pending}
+use Rattle.world_covering.proofs.Seats.{seat_on, seats_on, seats_below, at_new}
 
 module _ (s : Source) (items : List Item) where
   -- ---- where the run stands

@@ -1,7 +1,7 @@
 -- What the tables of operators give for the kinds of shapes without parts: some kinds without parts, or a fault.
-use Rattle.std.proofs.Common.{◌≡◌, ℕ, suc, zero, ◌<◌, Bool, true, false, ◌&&◌, List, [], ◌∷◌, length, Option, Some, None, slice_get, refl, ap, subst, arith}
+use Rattle.std.proofs.Common.{◌≡◌, Bool, true, false, ◌&&◌, List, [], ◌∷◌, Option, Some, None, refl, subst}
 use Rattle.std.specs.List.{Contains, list_all}
-use Rattle.graph_walks.proofs.Lists.{empty, first, first_as, later, first_or_later}
+use Rattle.graph_walks.proofs.Lists.{empty, first_or_later}
 use Rattle.std.proofs.Common.{◌⊎◌, inl, inr, sym}
 use Rattle.place_ids.specs.declared.operators.BinOp.{BinOp}
 use Rattle.place_ids.specs.declared.operators.BinOp.TheVariants as bin

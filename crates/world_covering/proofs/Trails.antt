@@ -1,6 +1,5 @@
 -- What is said of a run that goes along its module's code: a walk is kept of it.
-use Rattle.std.proofs.Common.{◌≡◌, ℕ, Option, List, []}
-use Rattle.stack_code.specs.declared.code.Range.{Range}
+use Rattle.std.proofs.Common.{ℕ, List, []}
 use Rattle.world_rules.specs.Places.{Context}
 use Rattle.world_rules.specs.Sources.{Source}
 use Rattle.world_rules.specs.Items.{Item}
@@ -10,15 +9,15 @@ use Rattle.py_meaning.specs.Objects.{Object}
 use Rattle.py_meaning.specs.Events.{Event, returned, held, fault}
 use Rattle.py_meaning.specs.Actions.{Memory, with_scope, with_new, with_parts, Action, gives, raises, takes, counts, turn, looks, becomes, makes, refills, tells}
 use Rattle.py_meaning.specs.Values.{ref}
-use Rattle.py_meaning.specs.Holds.{Account, Lasts, Post, Holds}
+use Rattle.py_meaning.specs.Holds.{Lasts, Post, Holds}
 use Rattle.std.specs.Prelude.{length}
 use Rattle.tree_covering.specs.Trails.{Trail}
 use Rattle.tree_covering.specs.Turns.{account}
-use Rattle.world_covering.specs.Standing.{Stands, Grows}
+use Rattle.world_covering.specs.Standing.{Grows}
 use Rattle.world_covering.specs.RowLaws.{turnless}
 use Rattle.world_covering.specs.Keeping.{code_in, Kept, Pending}
 use Rattle.world_covering.specs.Covering.{IsEnding}
-use Rattle.world_covering.proofs.Growing.{grows_self, grows_new, grows_set, stands_on}
+use Rattle.world_covering.proofs.Growing.{grows_new, grows_set, stands_on}
 
 module _ (s : Source) (items : List Item) (error : ℕ) where
   abbrev pub IsTold : List Object → Event → Type 0
@@ -63,7 +62,7 @@ module _ (s : Source) (items : List Item) (error : ℕ) where
 
   -- what holds of an action that takes no turn holds along the run too
   module _ (Told : Event → Type 0) (said : (h : List Object) (e : Event) → Told e → IsTold h e) {A : Type 0} (P : Post (turnless Told) A) (R : Post (turnless Told) Value) (Q : Post (account covering) A) (S : Post (account covering) Value)
-           (on : (m : Memory) (a : A) → P tt m a → Q tt m a) (off : (m : Memory) (v : Value) → R tt m v → S tt m v) where
+      (on : (m : Memory) (a : A) → P tt m a → Q tt m a) (off : (m : Memory) (v : Value) → R tt m v → S tt m v) where
     pub along : (action : Action A) (m : Memory) → Holds (turnless Told) P R tt m action → Holds (account covering) Q S tt m action
     along (gives a) m w = on m a w
     along (raises v) m w = off m v w

@@ -1,5 +1,5 @@
 -- The truth of a value is one for which its shape passes.
-use Rattle.std.proofs.Common.{◌≡◌, ℕ, Bool, true, false, not, Some, List, [], ◌∷◌, ◌⊎◌, inl, inr, refl, sym, ap, subst, ◌∙◌}
+use Rattle.std.proofs.Common.{◌≡◌, Bool, true, false, not, Some, [], ◌∷◌, ◌⊎◌, inl, inr, refl, sym, ap, subst, ◌∙◌}
 use Rattle.std.specs.List.{Contains}
 use Rattle.type_terms.specs.Terms as type
 use Rattle.flow_graph.specs.declared.edge.Truth.{Truth}
@@ -9,7 +9,6 @@ use Rattle.graph_walks.proofs.Lists.{first, got}
 use Rattle.abstract_shapes.specs.declared.shape.Row.TheVariants.{Builtin}
 use Rattle.abstract_shapes.specs.Shapes as shape
 use Rattle.abstract_shapes.specs.Shapes.{Shape}
-use Rattle.world_rules.specs.declared.row.Yield.{Yield}
 use Rattle.world_rules.specs.declared.row.Yield.TheVariants as yields
 use Rattle.world_rules.specs.declared.transfer.Transfer.TheVariants as transfer
 use Rattle.world_rules.specs.Items.{truth_as}
@@ -22,11 +21,11 @@ use Rattle.py_meaning.specs.Objects as object
 use Rattle.py_meaning.specs.Objects.{Object}
 use Rattle.py_meaning.specs.Events.{Event}
 use Rattle.py_meaning.specs.Truth.{truth_of, truth_of_object, is_zero}
-use Rattle.py_meaning.specs.Actions.{Memory, Action, gives, bind, is_even}
+use Rattle.py_meaning.specs.Actions.{Memory, Action, gives, is_even}
 use Rattle.py_meaning.specs.Holds.{Holds}
 use Rattle.py_meaning.proofs.Holding.{holds_bind}
 use Rattle.world_covering.specs.Standing.{Stands, a_none, a_true, a_false, an_int, a_float, a_text, some_bytes, from_outside, a_native}
-use Rattle.world_covering.specs.RowLaws.{turnless, Stays, Gave, Passes, IsInverted}
+use Rattle.world_covering.specs.RowLaws.{turnless, Gave, Passes, IsInverted}
 use Rattle.world_covering.proofs.Growing.{at_object}
 use Rattle.world_covering.proofs.Rows.{gave}
 

@@ -20,7 +20,6 @@ use Rattle.abstract_shapes.specs.Shapes as shape
 use Rattle.world_rules.specs.declared.row.TransferRow.{TransferRow}
 use Rattle.world_rules.specs.declared.row.Yield.{Yield}
 use Rattle.world_rules.specs.declared.row.Yield.TheVariants as yields
-use Rattle.world_rules.specs.declared.transfer.Transfer.{Transfer}
 use Rattle.world_rules.specs.declared.transfer.Transfer.TheVariants as transfer
 use Rattle.world_rules.specs.Operators as rules
 use Rattle.world_rules.specs.Readings.{builtin, unknown, native_yield}
@@ -28,9 +27,9 @@ use Rattle.world_rules.specs.Rows.{row_of}
 use Rattle.py_meaning.specs.Values as value
 use Rattle.py_meaning.specs.Values.{Value, ref}
 use Rattle.py_meaning.specs.Objects as object
-use Rattle.py_meaning.specs.Fresh.{fresh_text, of_one_kind, value_of_row}
+use Rattle.py_meaning.specs.Fresh.{fresh_text, of_one_kind}
 use Rattle.py_meaning.specs.Names.{builtin_value, native_value}
-use Rattle.py_meaning.specs.Actions.{Memory, with_new, Action, allocate, anything, is_even}
+use Rattle.py_meaning.specs.Actions.{Memory, Action, allocate, anything, is_even}
 use Rattle.py_meaning.specs.Holds.{Holds}
 use Rattle.world_covering.specs.Standing.{a_text, from_outside, a_native}
 use Rattle.world_covering.specs.RowLaws.{turnless, Stays, Gave, IsRead}
@@ -97,15 +96,18 @@ anything_gives row m i =
     (tt, tt, record { stays = stays_new m (object.outside type.any); yield = yields.Ext; among = i; shape = shape.ext; is = refl; stands = from_outside (got_last m.heap (object.outside type.any)) })
 
 native_gives : (n : ℕ) (row : Native) (m : Memory) → slice_get natives n ≡ Some row → Quiet (rules.gives (yields.Native n ∷ [])) m (allocate (object.foreign (object.builtin n)))
-native_gives n row m e =
-    (tt, tt, record {
-      stays = stays_new m (object.foreign (object.builtin n));
-      yield = yields.Native n;
-      among = first (yields.Native n) [];
-      shape = shape.native (Builtin n);
-      is = refl;
-      stands = a_native (got_last m.heap (object.foreign (object.builtin n))) e;
-    })
+native_gives n row m e = (
+  tt,
+  tt,
+  record {
+    stays = stays_new m (object.foreign (object.builtin n));
+    yield = yields.Native n;
+    among = first (yields.Native n) [];
+    shape = shape.native (Builtin n);
+    is = refl;
+    stands = a_native (got_last m.heap (object.foreign (object.builtin n))) e;
+  },
+)
 
 module _ (m : Memory) where
   abbrev Text : Action Value → Type 0

@@ -1,5 +1,5 @@
 -- What a row of the rules says of an operation: each result stands for a shape that the row gives, and each fault is the row's.
-use Rattle.std.specs.Prelude.{◌≡◌, ℕ, Bool, true, false, Option, Some, None, List, [], ◌∷◌, not}
+use Rattle.std.specs.Prelude.{◌≡◌, ℕ, Bool, true, false, Some, None, List, [], ◌∷◌, not}
 use Rattle.std.specs.List.{Contains}
 use Rattle.place_ids.specs.declared.operators.BinOp.{BinOp}
 use Rattle.place_ids.specs.declared.operators.CompareOp.{CompareOp}

@@ -1,6 +1,16 @@
--- By the walks that are kept of a run.
-use Rattle.world_covering.proofs.Covered.{covered}
+-- By the walks that are kept of a run; the grammar's trees have the names of their module.
+use Rattle.std.specs.Prelude.{[]}
+use Rattle.world_covering.specs.Sources.{source_of}
+use Rattle.world_covering.proofs.Covered.{covered, in_stub}
+use Rattle.py_meaning.specs.Programs.{program}
+use Rattle.py_meaning.specs.Runs.{run}
 use Rattle.world_covering.proofs.laws.runs_are_covered.Goals as goal
 
-pub returns : goal.returns
-returns c = λ m stubs settings items closed formed none plain n choices. covered m stubs settings items closed formed none plain n choices
+pub returns-clause-events : goal.returns-clause-events
+returns-clause-events c = λ text t m stubs settings items n choices tokens tree none plain closed.
+    covered m stubs settings items closed (c.trees_are_well_formed.ensures text t m tokens tree none) none plain n choices
+
+pub returns-clause-stubs : goal.returns-clause-stubs
+returns-clause-stubs c = λ text t m stubs settings items n choices tokens tree none plain closed stub is place name v row e f held.
+    in_stub (source_of m stubs settings) items (program m stubs) (run m stubs n choices []).heap (run m stubs n choices []).events
+    (covered m stubs settings items closed (c.trees_are_well_formed.ensures text t m tokens tree none) none plain n choices) stub is place name v row e f held
