@@ -20,7 +20,7 @@ use Rattle.py_meaning.specs.Programs.{Program, program}
 use Rattle.py_meaning.specs.Runs.{run_of, answer, run}
 use Rattle.tree_covering.proofs.Faultless.{module_may}
 use Rattle.world_covering.specs.Forms.{IsPlainBody}
-use Rattle.world_covering.specs.Sources.{Settings, source_of}
+use Rattle.world_covering.specs.Modules.{Settings, source_of}
 use Rattle.world_covering.specs.Covering.{IsCovered, IsHeld}
 use Rattle.world_rules.specs.Sources.{Source}
 use Rattle.world_covering.proofs.Belonging.{held_belongs}

@@ -46,7 +46,7 @@ use Rattle.tree_covering.specs.Turns.{account}
 use Rattle.tree_covering.specs.Follows.{Follows}
 use Rattle.tree_covering.proofs.OnlyOps.{OnlyOps, op_in_module}
 use Rattle.world_covering.specs.RowLaws.{Stays, Gave}
-use Rattle.world_covering.specs.Sources.{Settings, source_of}
+use Rattle.world_covering.specs.Modules.{Settings, source_of}
 use Rattle.world_covering.specs.Keeping.{code_in, IsSeated, Kept, Pending}
 use Rattle.world_covering.proofs.Built.{IsBuilt}
 use Rattle.world_covering.proofs.Growing.{stays_here, stays_new}

@@ -37,7 +37,7 @@ use Rattle.tree_covering.proofs.Loops.{while_inner, while_back, while_body_lies,
 use Rattle.tree_covering.proofs.OnlyOps.{OnlyOps}
 use Rattle.tree_covering.proofs.Statements.{body_goes}
 use Rattle.world_covering.specs.Forms.{IsPlainBody}
-use Rattle.world_covering.specs.Sources.{Settings, source_of}
+use Rattle.world_covering.specs.Modules.{Settings, source_of}
 use Rattle.world_covering.specs.Keeping.{IsSeated, Kept}
 use Rattle.world_covering.specs.Covering.{IsEnding}
 use Rattle.world_covering.proofs.Built.{IsBuilt, same_body}

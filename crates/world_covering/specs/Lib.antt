@@ -1,4 +1,4 @@
-pub mod Sources
+pub mod Modules
 pub mod Forms
 pub mod Standing
 pub mod RowLaws

@@ -1,12 +1,9 @@
 //! What closed worlds tell of runs.
 ghost use Rattle.std.specs.Prelude.{◌≡◌, ℕ, Some, List, [], slice_get};
 ghost use Rattle.std.specs.List.{All, Contains};
-ghost use Rattle.py_grammar.specs.Modules.{IsModuleOf};
-ghost use Rattle.py_tokens.specs.Readings.{HasTokens};
 ghost use Rattle.py_tokens.specs.TokenList.{TokenList};
 ghost use Rattle.py_tree.specs.Tree.{Module};
 ghost use Rattle.type_terms.specs.Stubs.{Name, Stub};
-ghost use Rattle.scope_rules.specs.Faults.{faults};
 ghost use Rattle.scope_rules.specs.Scoped.{scoped};
 ghost use Rattle.world_rules.specs.Items.{Item};
 ghost use Rattle.world_rules.specs.Rules.{IsClosed};
@@ -17,9 +14,8 @@ ghost use Rattle.py_meaning.specs.Programs.{program};
 ghost use Rattle.py_meaning.specs.Runs.{run};
 ghost use Rattle.py_meaning.specs.Values.{Value};
 ghost use Rattle.world_covering.specs.Covering.{IsCovered};
-ghost use Rattle.world_covering.specs.Forms.{IsPlainBody};
 ghost use Rattle.world_covering.specs.RowLaws.{RowsHold};
-ghost use Rattle.world_covering.specs.Sources.{Settings, source_of};
+ghost use Rattle.world_covering.specs.Modules.{IsPlainModule, Settings, source_of};
 
 use grammar_laws::laws::trees_are_well_formed;
 
@@ -30,13 +26,13 @@ pub fn rows_hold()
 
 /// Each closed world covers every run of its module, for the modules of the grammar that break no rule and have the covered forms alone: each fault stands on a line with a finding or on an unchecked line, and what a name holds at the end stands for a shape that it is seen to have there, and belongs to its type in the last heap. So each value belongs to the type of its name in the world's stub.
 pub fn runs_are_covered()
-    ensures events { (text : List ℕ) (t : TokenList) (m : Module) (stubs : List (List ℕ × Stub)) (settings : Settings) (items : List Item) (n : ℕ) (choices : List ℕ) →
-        HasTokens text t.tokens t.names → IsModuleOf t m → faults m ≡ [] → IsPlainBody m.body → IsClosed (source_of m stubs settings) items →
-        All (IsCovered (source_of m stubs settings) items (program m stubs) (run m stubs n choices []).heap) (run m stubs n choices []).events }
-    ensures stubs { (text : List ℕ) (t : TokenList) (m : Module) (stubs : List (List ℕ × Stub)) (settings : Settings) (items : List Item) (n : ℕ) (choices : List ℕ) →
-        HasTokens text t.tokens t.names → IsModuleOf t m → faults m ≡ [] → IsPlainBody m.body → IsClosed (source_of m stubs settings) items →
+    ensures events { (text : List ℕ) (t : TokenList) (m : Module) (stubs : List (List ℕ × Stub)) (settings : Settings) (items : List Item) (turns : ℕ) (choices : List ℕ) →
+        IsPlainModule text t m → IsClosed (source_of m stubs settings) items →
+        All (IsCovered (source_of m stubs settings) items (program m stubs) (run m stubs turns choices []).heap) (run m stubs turns choices []).events }
+    ensures stubs { (text : List ℕ) (t : TokenList) (m : Module) (stubs : List (List ℕ × Stub)) (settings : Settings) (items : List Item) (turns : ℕ) (choices : List ℕ) →
+        IsPlainModule text t m → IsClosed (source_of m stubs settings) items →
         (stub : Stub) → IsStubOf (source_of m stubs settings) items stub → (place name : ℕ) (v : Value) (row : Name) → slice_get (scoped m).printed place ≡ Some name → slice_get stub.names place ≡ Some row →
-        Contains (run m stubs n choices []).events (held name v) → Belongs (program m stubs) (run m stubs n choices []).heap row.term v }
+        Contains (run m stubs turns choices []).events (held name v) → Belongs (program m stubs) (run m stubs turns choices []).heap row.term v }
 {
     trees_are_well_formed();
 }

@@ -1,16 +1,16 @@
 -- By the walks that are kept of a run; the grammar's trees have the names of their module.
 use Rattle.std.specs.Prelude.{[]}
-use Rattle.world_covering.specs.Sources.{source_of}
+use Rattle.world_covering.specs.Modules.{source_of}
 use Rattle.world_covering.proofs.Covered.{covered, in_stub}
 use Rattle.py_meaning.specs.Programs.{program}
 use Rattle.py_meaning.specs.Runs.{run}
 use Rattle.world_covering.proofs.laws.runs_are_covered.Goals as goal
 
 pub returns-clause-events : goal.returns-clause-events
-returns-clause-events c = λ text t m stubs settings items n choices tokens tree none plain closed.
-    covered m stubs settings items closed (c.trees_are_well_formed.ensures text t m tokens tree none) none plain n choices
+returns-clause-events c = λ text t m stubs settings items turns choices h closed.
+    covered m stubs settings items closed (c.trees_are_well_formed.ensures text t m h.tokens h.tree h.faultless) h.faultless h.plain turns choices
 
 pub returns-clause-stubs : goal.returns-clause-stubs
-returns-clause-stubs c = λ text t m stubs settings items n choices tokens tree none plain closed stub is place name v row e f held.
-    in_stub (source_of m stubs settings) items (program m stubs) (run m stubs n choices []).heap (run m stubs n choices []).events
-    (covered m stubs settings items closed (c.trees_are_well_formed.ensures text t m tokens tree none) none plain n choices) stub is place name v row e f held
+returns-clause-stubs c = λ text t m stubs settings items turns choices h closed stub is place name v row e f held.
+    in_stub (source_of m stubs settings) items (program m stubs) (run m stubs turns choices []).heap (run m stubs turns choices []).events
+    (covered m stubs settings items closed (c.trees_are_well_formed.ensures text t m h.tokens h.tree h.faultless) h.faultless h.plain turns choices) stub is place name v row e f held
