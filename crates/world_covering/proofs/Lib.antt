@@ -15,3 +15,4 @@ pub mod Following
 pub mod Running
 pub mod Belonging
 pub mod Covered
+pub mod OneLine

@@ -4,3 +4,4 @@ pub mod Standing
 pub mod RowLaws
 pub mod Keeping
 pub mod Covering
+pub mod OneLine

@@ -1,5 +1,5 @@
 //! What closed worlds tell of runs.
-ghost use Rattle.std.specs.Prelude.{◌≡◌, ℕ, Some, List, [], slice_get};
+ghost use Rattle.std.specs.Prelude.{◌≡◌, ℕ, pos, Some, List, [], ◌∷◌, slice_get};
 ghost use Rattle.std.specs.List.{All, Contains};
 ghost use Rattle.py_tokens.specs.TokenList.{TokenList};
 ghost use Rattle.py_tree.specs.Tree.{Module};
@@ -12,8 +12,9 @@ ghost use Rattle.py_meaning.specs.Belongs.{Belongs};
 ghost use Rattle.py_meaning.specs.Events.{held};
 ghost use Rattle.py_meaning.specs.Programs.{program};
 ghost use Rattle.py_meaning.specs.Runs.{run};
-ghost use Rattle.py_meaning.specs.Values.{Value};
+ghost use Rattle.py_meaning.specs.Values.{Value, whole};
 ghost use Rattle.world_covering.specs.Covering.{IsCovered};
+ghost use Rattle.world_covering.specs.OneLine.{one_line, its_source, its_world};
 ghost use Rattle.world_covering.specs.RowLaws.{RowsHold};
 ghost use Rattle.world_covering.specs.Modules.{IsPlainModule, Settings, source_of};
 
@@ -36,3 +37,10 @@ pub fn runs_are_covered()
 {
     trees_are_well_formed();
 }
+
+/// The world of `x = 1` is closed, and its runs are covered with nothing left to assume; one tells that `x` holds 1.
+pub fn a_world_is_closed()
+    ensures closed { IsClosed its_source its_world }
+    ensures covered { (turns : ℕ) (choices : List ℕ) → All (IsCovered its_source its_world (program one_line []) (run one_line [] turns choices []).heap) (run one_line [] turns choices []).events }
+    ensures told { (run one_line [] 0 [] []).events ≡ held 0 (whole (pos 1)) ∷ [] }
+{}
