@@ -1,5 +1,5 @@
 -- The covering of runs, and what it says of a stub.
-use Rattle.std.proofs.Common.{◌≡◌, ℕ, zero, suc, Some, List, [], length, slice_get, subst}
+use Rattle.std.proofs.Common.{◌≡◌, ℕ, zero, suc, Some, List, [], length, slice_get, subst, Option, map, ◌⊎◌, inl, inr}
 use Rattle.std.specs.List.{Contains, All}
 use Rattle.py_tree.specs.Tree.{Module}
 use Rattle.type_terms.specs.Stubs.{Name, Stub}
@@ -14,7 +14,10 @@ use Rattle.py_meaning.specs.Belongs.{Belongs}
 use Rattle.py_meaning.specs.Values.{Value}
 use Rattle.std.proofs.lemmas.List.Elements.{All-contains}
 use Rattle.world_covering.proofs.Seats.{some_same}
-use Rattle.py_meaning.specs.Events.{Event, returned, held, fault}
+use Rattle.graph_walks.proofs.Lists.{map_has}
+use Rattle.world_rules.specs.declared.finding.Finding.{Finding}
+use Rattle.world_rules.specs.Findings.{IsReported, by_finding, by_operand, AreFindings, AreUnchecked}
+use Rattle.py_meaning.specs.Events.{FaultKind, Holder, Event, returned, held, fault}
 use Rattle.py_meaning.specs.Objects.{Object}
 use Rattle.py_meaning.specs.Programs.{Program, program}
 use Rattle.py_meaning.specs.Runs.{run_of, answer, run}
@@ -56,3 +59,14 @@ pub in_stub : (s : Source) (items : List Item) (p : Program) (h : List Object) (
 in_stub s items p h events all stub is place n v row e f c =
     let w : IsHeld s items p h n v = All-contains (IsCovered s items p h) events (held n v) all c in
     w.belongs row.term (type_at s items s.scopes.printed stub.names is.names place n row e f)
+
+-- ---- the report
+
+on_line : (s : Source) (items : List Item) (findings : List Finding) (unchecked : List ℕ) → AreFindings s items findings → AreUnchecked s items unchecked → (line : ℕ) → IsReported s items line → Contains (map (λ f. f.line) findings) line ⊎ Contains unchecked line
+on_line s items findings unchecked fs us line (by_finding f at is) = inl (subst (λ z. Contains (map (λ f. f.line) findings) z) at (map_has (λ f. f.line) findings f ((fs.members f).1 is)))
+on_line s items findings unchecked fs us line (by_operand is) = inr ((us.members line).1 is)
+
+pub in_report : (s : Source) (items : List Item) (p : Program) (h : List Object) (events : List Event) → All (IsCovered s items p h) events → (findings : List Finding) (unchecked : List ℕ) → AreFindings s items findings → AreUnchecked s items unchecked →
+    (line : ℕ) (kind : FaultKind) (holder : Holder) (attribute : Option ℕ) → Contains events (fault line kind holder attribute) → Contains (map (λ f. f.line) findings) line ⊎ Contains unchecked line
+in_report s items p h events all findings unchecked fs us line kind holder attribute c =
+    on_line s items findings unchecked fs us line (All-contains (IsCovered s items p h) events (fault line kind holder attribute) all c)

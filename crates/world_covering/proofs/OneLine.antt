@@ -1,5 +1,5 @@
 -- The world of `x = 1` is closed, rule by rule, so the covering speaks of something.
-use Rattle.std.proofs.Common.{◌≡◌, ℕ, Bool, true, false, ◌||◌, Some, List, [], ◌∷◌, ◌⊎◌, inl, inr, refl, sym, ap, subst, ◌∙◌, arith, slice_get}
+use Rattle.std.proofs.Common.{◌≡◌, ℕ, Bool, true, false, ◌||◌, Some, List, [], ◌∷◌, ◌⊎◌, inl, inr, refl, sym, ap, subst, arith, slice_get}
 use Rattle.std.specs.Prelude.{pos}
 use Rattle.std.specs.List.{All, Contains}
 use Rattle.stack_code.specs.declared.code.Code.{Code}
@@ -7,7 +7,7 @@ use Rattle.stack_code.specs.declared.op.Op.{Op}
 use Rattle.stack_code.specs.declared.op.Op.TheVariants as op
 use Rattle.stack_code.specs.declared.op.ConstKind.TheVariants as const
 use Rattle.stack_code.specs.Depths.{HasDepth, begins, given, handles, Gives as LeadsOn, goes_on, jumps}
-use Rattle.graph_walks.specs.Worlds.{Memory, Edge, AllGiven, FactGives}
+use Rattle.graph_walks.specs.Worlds.{Edge, AllGiven, FactGives}
 use Rattle.graph_walks.proofs.Lists.{empty, first_or_later, only, got}
 use Rattle.abstract_shapes.specs.declared.place.Place.TheVariants.{Global}
 use Rattle.abstract_shapes.specs.Shapes.{Shape, int}
@@ -17,10 +17,10 @@ use Rattle.world_rules.specs.declared.row.Yield.TheVariants as yields
 use Rattle.world_rules.specs.declared.transfer.SeatReading.{SeatReading}
 use Rattle.world_rules.specs.declared.transfer.Transfer.TheVariants as transfer
 use Rattle.world_rules.specs.Places.{Context, main, Variable, slot, Point, at, same_context}
-use Rattle.world_rules.specs.Items.{Item, a_context, an_edge, a_fact, an_entry, has_context, world_of, map_of, Agree, variables}
+use Rattle.world_rules.specs.Items.{Item, a_context, an_edge, a_fact, an_entry, world_of, map_of, Agree, variables}
 use Rattle.world_rules.specs.Readings.{slot_below}
 use Rattle.world_rules.specs.Rows.{row_of}
-use Rattle.world_rules.specs.Rules.{Stands, readings_at, Leads, on, off, Yields, it, one, Fires, GivesAt, result, enter, Gives, of_module, leads, of_point, IsClosed}
+use Rattle.world_rules.specs.Rules.{Stands, readings_at, Leads, on, off, Yields, it, Fires, GivesAt, result, enter, Gives, of_module, leads, of_point, IsClosed}
 use Rattle.world_rules.proofs.Given.{seen_given}
 use Rattle.world_rules.proofs.Members.{item_context}
 use Rattle.world_rules.proofs.Same.{context_equal}

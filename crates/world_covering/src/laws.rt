@@ -1,5 +1,5 @@
 //! What closed worlds tell of runs.
-ghost use Rattle.std.specs.Prelude.{◌≡◌, ℕ, pos, Some, List, [], ◌∷◌, slice_get};
+ghost use Rattle.std.specs.Prelude.{◌≡◌, ◌⊎◌, ℕ, pos, Option, Some, List, [], ◌∷◌, map, slice_get};
 ghost use Rattle.std.specs.List.{All, Contains};
 ghost use Rattle.py_tokens.specs.TokenList.{TokenList};
 ghost use Rattle.py_tree.specs.Tree.{Module};
@@ -7,9 +7,11 @@ ghost use Rattle.type_terms.specs.Stubs.{Name, Stub};
 ghost use Rattle.scope_rules.specs.Scoped.{scoped};
 ghost use Rattle.world_rules.specs.Items.{Item};
 ghost use Rattle.world_rules.specs.Rules.{IsClosed};
+ghost use Rattle.world_rules.specs.declared.finding.Finding.{Finding};
+ghost use Rattle.world_rules.specs.Findings.{AreFindings, AreUnchecked};
 ghost use Rattle.world_rules.specs.Stubs.{IsStubOf};
 ghost use Rattle.py_meaning.specs.Belongs.{Belongs};
-ghost use Rattle.py_meaning.specs.Events.{held};
+ghost use Rattle.py_meaning.specs.Events.{FaultKind, Holder, held, fault};
 ghost use Rattle.py_meaning.specs.Programs.{program};
 ghost use Rattle.py_meaning.specs.Runs.{run};
 ghost use Rattle.py_meaning.specs.Values.{Value, whole};
@@ -25,7 +27,7 @@ pub fn rows_hold()
     ensures { RowsHold }
 {}
 
-/// Each closed world covers every run of its module, for the modules of the grammar that break no rule and have the covered forms alone: each fault stands on a line with a finding or on an unchecked line, and what a name holds at the end stands for a shape that it is seen to have there, and belongs to its type in the last heap. So each value belongs to the type of its name in the world's stub.
+/// Each closed world covers every run of its module, for the modules of the grammar that break no rule and have the covered forms alone: each fault stands on a line with a finding or on an unchecked line, and what a name holds at the end stands for a shape that it is seen to have there, and belongs to its type in the last heap. So each value belongs to the type of its name in the world's stub, and each fault's line is in the world's report.
 pub fn runs_are_covered()
     ensures events { (text : List ℕ) (t : TokenList) (m : Module) (stubs : List (List ℕ × Stub)) (settings : Settings) (items : List Item) (turns : ℕ) (choices : List ℕ) →
         IsPlainModule text t m → IsClosed (source_of m stubs settings) items →
@@ -34,6 +36,11 @@ pub fn runs_are_covered()
         IsPlainModule text t m → IsClosed (source_of m stubs settings) items →
         (stub : Stub) → IsStubOf (source_of m stubs settings) items stub → (place name : ℕ) (v : Value) (row : Name) → slice_get (scoped m).printed place ≡ Some name → slice_get stub.names place ≡ Some row →
         Contains (run m stubs turns choices []).events (held name v) → Belongs (program m stubs) (run m stubs turns choices []).heap row.term v }
+    ensures report { (text : List ℕ) (t : TokenList) (m : Module) (stubs : List (List ℕ × Stub)) (settings : Settings) (items : List Item) (turns : ℕ) (choices : List ℕ) →
+        IsPlainModule text t m → IsClosed (source_of m stubs settings) items →
+        (findings : List Finding) (unchecked : List ℕ) → AreFindings (source_of m stubs settings) items findings → AreUnchecked (source_of m stubs settings) items unchecked →
+        (line : ℕ) (kind : FaultKind) (holder : Holder) (attribute : Option ℕ) → Contains (run m stubs turns choices []).events (fault line kind holder attribute) →
+        Contains (map (λ f. f.line) findings) line ⊎ Contains unchecked line }
 {
     trees_are_well_formed();
 }
