@@ -53,29 +53,29 @@ some_first (x ∷ xs) k o e = refl
 
 module _ (m : Module) (stubs : List (List ℕ × Stub)) (settings : Settings) (items : List Item) (closed : IsClosed (source_of m stubs settings) items) (only : OnlyOps (IsBuilt (length m.names)) (body_code (in_module (error m stubs settings items closed)) m.body))
     (plain : IsPlainBody m.body) (leaves : MayStand false (jumps false m.body)) where
-  abbrev T : Trail
-  T = t m stubs settings items closed
+  abbrev trail : Trail
+  trail = t m stubs settings items closed
 
-  abbrev P : Program
-  P = p m stubs settings items closed
+  abbrev meant : Program
+  meant = p m stubs settings items closed
 
-  abbrev E : ℕ
-  E = error m stubs settings items closed
+  abbrev error_number : ℕ
+  error_number = error m stubs settings items closed
 
-  abbrev top : Around T
+  abbrev top : Around trail
   top = record { context = main; since = tt; labels = no_loop; outer = None }
 
   abbrev piece : Piece
   piece = body_code (in_module (length m.names)) m.body
 
-  same_piece : body_code (in_module E) m.body ≡ piece
-  same_piece = same_body E (length m.names) m.body plain
+  same_piece : body_code (in_module error_number) m.body ≡ piece
+  same_piece = same_body error_number (length m.names) m.body plain
 
-  lies : LiesIn T top 0 piece
-  lies = subst (λ z. Lies (module_code E m.body) no_loop 0 None z) same_piece (module_lies E m.body)
+  lies : LiesIn trail top 0 piece
+  lies = subst (λ z. Lies (module_code error_number m.body) no_loop 0 None z) same_piece (module_lies error_number m.body)
 
-  at_end : slice_get (module_code E m.body).ops piece.size ≡ Some op.End
-  at_end = subst (λ z. slice_get (module_code E m.body).ops z.size ≡ Some op.End) same_piece (module_ends E m.body).0.0
+  at_end : slice_get (module_code error_number m.body).ops piece.size ≡ Some op.End
+  at_end = subst (λ z. slice_get (module_code error_number m.body).ops z.size ≡ Some op.End) same_piece (module_ends error_number m.body).0.0
 
   -- ---- where the run begins
 
@@ -88,8 +88,8 @@ module _ (m : Module) (stubs : List (List ℕ × Stub)) (settings : Settings) (i
         here = refl;
         context = main_there;
         shapes = nothing;
-        walk = begin_walk (both (is_some (op_at (s m stubs settings items closed).program main 0)) (has_context items main) (some_first (module_code E m.body).ops piece.size op.End at_end) (item_context items main main_there));
-        point = record { code = module_code E m.body; of = refl; has_depth = begins (omega (arith, lies.fits)) };
+        walk = begin_walk (both (is_some (op_at (s m stubs settings items closed).program main 0)) (has_context items main) (some_first (module_code error_number m.body).ops piece.size op.End at_end) (item_context items main main_there));
+        point = record { code = module_code error_number m.body; of = refl; has_depth = begins (omega (arith, lies.fits)) };
         slots = tt;
         globals = λ n v e. cc;
         frame = refl;
@@ -98,10 +98,10 @@ module _ (m : Module) (stubs : List (List ℕ × Stub)) (settings : Settings) (i
   -- ---- what a name holds at the end
 
   abbrev Ended : Unit {0} → Memory → Unit {0} → Type 0
-  Ended = DoneAt T top piece.size []
+  Ended = DoneAt trail top piece.size []
 
   abbrev Left : Unit {0} → Memory → Value → Type 0
-  Left = SentOver T top []
+  Left = SentOver trail top []
 
   ending : (n : ℕ) (v : Value) (mem : Memory) → Kept (s m stubs settings items closed) items main piece.size [] mem → entry mem.scope.globals n ≡ Some v → IsEnding (s m stubs settings items closed) items mem.heap n v
   ending n v mem k e =
@@ -114,56 +114,56 @@ module _ (m : Module) (stubs : List (List ℕ × Stub)) (settings : Settings) (i
           place = piece.size;
           depth = 0;
           context = main_there;
-          stands = record { code = module_code E m.body; of = refl; op = at_end; has_depth = begun_depth k };
+          stands = record { code = module_code error_number m.body; of = refl; op = at_end; has_depth = begun_depth k };
           seen = inl seen;
         };
         stands = y.stands;
       }
     where
-      begun_depth : Kept (s m stubs settings items closed) items main piece.size [] mem → HasDepth (module_code E m.body) piece.size 0
-      begun_depth k = let same : k.point.code ≡ module_code E m.body = Rattle.world_covering.proofs.Seats.some_same (sym k.point.of) in subst (λ z. HasDepth z piece.size 0) same k.point.has_depth
+      begun_depth : Kept (s m stubs settings items closed) items main piece.size [] mem → HasDepth (module_code error_number m.body) piece.size 0
+      begun_depth k = let same : k.point.code ≡ module_code error_number m.body = Rattle.world_covering.proofs.Seats.some_same (sym k.point.of) in subst (λ z. HasDepth z piece.size 0) same k.point.has_depth
 
-  names_go : (names : List ℕ) (mem : Memory) → Kept (s m stubs settings items closed) items main piece.size [] mem → Holds (account T) Ended Left tt mem (tell_names names)
+  names_go : (names : List ℕ) (mem : Memory) → Kept (s m stubs settings items closed) items main piece.size [] mem → Holds (account trail) Ended Left tt mem (tell_names names)
   names_go [] mem k = k
   names_go (n ∷ names) mem k = one (entry mem.scope.globals n) refl (names_go names mem k)
     where
-      one : (o : Option Value) → entry mem.scope.globals n ≡ o → Holds (account T) Ended Left tt mem (tell_names names) → Holds (account T) Ended Left tt mem (tell_if n o (tell_names names))
+      one : (o : Option Value) → entry mem.scope.globals n ≡ o → Holds (account trail) Ended Left tt mem (tell_names names) → Holds (account trail) Ended Left tt mem (tell_if n o (tell_names names))
       one None e h = h
       one (Some v) e h = (ending n v mem k e, h)
 
   -- ---- turns are those of loops
 
-  turns_go : (q : Request) (way : TurnWay T q) (g : Unit {0}) (mem : Memory) → TurnAsked T q way g mem → Holds (account T) (GaveInside (account T) q way g mem) (RaisedInside (account T) q way g mem) g mem (perform P q)
+  turns_go : (q : Request) (way : TurnWay trail q) (g : Unit {0}) (mem : Memory) → TurnAsked trail q way g mem → Holds (account trail) (GaveInside (account trail) q way g mem) (RaisedInside (account trail) q way g mem) g mem (perform meant q)
   turns_go (while_turn test body) (of_loop w) g mem asked =
-      while_performs T P (steps m stubs settings items closed only) test body w (λ g1 m1 k1. body_goes T P (steps m stubs settings items closed only) body (while_inner T P (steps m stubs settings items closed only) test body w) _ (while_back T P (steps m stubs settings items closed only) test body w) g1 m1 w.leaves refl (while_body_lies T P (steps m stubs settings items closed only) test body w) k1) g mem asked
+      while_performs trail meant (steps m stubs settings items closed only) test body w (λ g1 m1 k1. body_goes trail meant (steps m stubs settings items closed only) body (while_inner trail meant (steps m stubs settings items closed only) test body w) _ (while_back trail meant (steps m stubs settings items closed only) test body w) g1 m1 w.leaves refl (while_body_lies trail meant (steps m stubs settings items closed only) test body w) k1) g mem asked
   turns_go (for_turn target body line v u) (of_loop w) g mem asked =
-      for_performs T P (steps m stubs settings items closed only) target body line w v (λ g1 m1 k1. body_goes T P (steps m stubs settings items closed only) body (for_inner T P (steps m stubs settings items closed only) target body line w v) (for_start T P (steps m stubs settings items closed only) target body line w v) (for_back T P (steps m stubs settings items closed only) target body line w v) g1 m1 w.leaves refl (for_body_lies T P (steps m stubs settings items closed only) target body line w v) k1) u g mem asked
+      for_performs trail meant (steps m stubs settings items closed only) target body line w v (λ g1 m1 k1. body_goes trail meant (steps m stubs settings items closed only) body (for_inner trail meant (steps m stubs settings items closed only) target body line w v) (for_start trail meant (steps m stubs settings items closed only) target body line w v) (for_back trail meant (steps m stubs settings items closed only) target body line w v) g1 m1 w.leaves refl (for_body_lies trail meant (steps m stubs settings items closed only) target body line w v) k1) u g mem asked
   turns_go (call f given site line) (of_loop w) g mem asked = absurd w
   turns_go (outside_call c) (of_loop w) g mem asked = absurd w
   turns_go q (otherwise w) g mem asked = absurd w
 
   -- ---- the run
 
-  ended_goes : (flow : Flow) (mem : Memory) → FlowAt T (module_round T top) piece.size tt mem flow → Holds (account T) Ended Left tt mem (tell_names (printed P))
-  ended_goes goes_on mem k = names_go (printed P) mem k
+  ended_goes : (flow : Flow) (mem : Memory) → FlowAt trail (module_round trail top) piece.size tt mem flow → Holds (account trail) Ended Left tt mem (tell_names (printed meant))
+  ended_goes goes_on mem k = names_go (printed meant) mem k
   ended_goes breaks mem k = let z : ⊥ = cc in absurd z
   ended_goes continues mem k = let z : ⊥ = cc in absurd z
   ended_goes (returns v) mem k = absurd k.1
 
-  module_goes : Holds (account T) Ended Left tt no_memory (then_do (module_action P) (make_calls P []))
+  module_goes : Holds (account trail) Ended Left tt no_memory (then_do (module_action meant) (make_calls meant []))
   module_goes =
-      holds_then (account T) Ended Ended Left (module_action P) (make_calls P []) tt no_memory
-      (holds_bind (account T) (FlowAt T (module_round T top) piece.size) Ended Left (exec_all P P.body) (λ flow. tell_names (printed P)) tt no_memory
-      (body_goes T P (steps m stubs settings items closed only) P.body (module_round T top) 0 piece.size tt no_memory leaves (omega arith) lies begun) (λ flow g mem k. ended_goes flow mem k))
+      holds_then (account trail) Ended Ended Left (module_action meant) (make_calls meant []) tt no_memory
+      (holds_bind (account trail) (FlowAt trail (module_round trail top) piece.size) Ended Left (exec_all meant meant.body) (λ flow. tell_names (printed meant)) tt no_memory
+      (body_goes trail meant (steps m stubs settings items closed only) meant.body (module_round trail top) 0 piece.size tt no_memory leaves (omega arith) lies begun) (λ flow g mem k. ended_goes flow mem k))
       (λ u g mem k. k)
 
-  answer_goes : (n : ℕ) (choices : List ℕ) → HoldsAfter (account T) Ended Left (answer m stubs n choices [])
+  answer_goes : (n : ℕ) (choices : List ℕ) → HoldsAfter (account trail) Ended Left (answer m stubs n choices [])
   unfolding answer
   answer_goes n choices =
-      runs_hold (account T) (lasts (s m stubs settings items closed) items (length m.names)) P (λ q way g mem always asked. turns_go q way g mem asked) Ended Left n (then_do (module_action P) (make_calls P [])) tt (start n choices)
+      runs_hold (account trail) (lasts (s m stubs settings items closed) items (length m.names)) meant (λ q way g mem always asked. turns_go q way g mem asked) Ended Left n (then_do (module_action meant) (make_calls meant [])) tt (start n choices)
       (All-nil (λ e. IsTold (s m stubs settings items closed) items (length m.names) [] e)) module_goes
 
-  each_told : (a : Answer (Unit {0})) → HoldsAfter (account T) Ended Left a → All (IsTold (s m stubs settings items closed) items (length m.names) (run_of a).heap) (run_of a).events
+  each_told : (a : Answer (Unit {0})) → HoldsAfter (account trail) Ended Left a → All (IsTold (s m stubs settings items closed) items (length m.names) (run_of a).heap) (run_of a).events
   each_told (gave u z) h = h.1
   each_told (raised v z) h = h.1
   each_told (stopped why z) h = h.1
