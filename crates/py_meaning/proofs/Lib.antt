@@ -13,6 +13,7 @@ pub mod Heads
 pub mod Ending
 pub mod More
 pub mod Endings
+pub mod Growing
 pub mod Kept
 pub mod KeptValues
 pub mod KeptParts

@@ -30,3 +30,5 @@ pub mod ObjectLaws
 pub mod KindLaws
 pub mod UnionLaws
 pub mod References
+pub mod Receivers
+pub mod ClassLaws

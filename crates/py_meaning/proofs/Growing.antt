@@ -1,0 +1,185 @@
+-- A heap that goes on from another: each object is what it was, a class keeps its names, and where the module's classes stand
+-- apart nothing but their own statements makes an object of one.
+use Rattle.std.proofs.Common.{◌≡◌, ℕ, zero, suc, ◌+◌, ◌≤◌, ◌<◌, ◌==◌, Bool, true, false, List, [], ◌∷◌, ◌++◌, length, Option, Some, None, slice_get, slice_set, unwrap_or, if◌then◌else◌, refl, sym, ap, ◌∙◌, subst, arith}
+use Rattle.std.specs.Prelude.{is_some}
+use Rattle.type_terms.specs.Terms as term
+use Rattle.scope_rules.specs.WellFormed.{Surroundings, AreFormedStmts, AreFormedHere}
+use Rattle.py_tree.specs.Tree.{Stmts}
+use Rattle.builtin_stubs.specs.declared.basic.Basic.{Basic}
+use Rattle.py_meaning.specs.Values.{Value, none, truth, whole, float, text, octets, ref, Entries, entry, with_entry}
+use Rattle.py_meaning.specs.Objects as object
+use Rattle.py_meaning.specs.Objects.{Object, Filling, of_values, of_pairs, of_entries, refilled, object_at, kind_of_object, kind_of}
+use Rattle.py_meaning.specs.Programs.{Program, FunRow, fun_at}
+use Rattle.py_meaning.specs.ObjectLaws.{head}
+use Rattle.py_meaning.specs.ClassLaws.{class_number, NumbersApart}
+use Rattle.py_meaning.specs.Receivers.{is_instance, is_instance_at}
+
+abbrev pub Heap : Type 0
+Heap = List Object
+
+-- ---- programs whose classes stand apart
+
+-- no class stands in these statements
+abbrev pub IsBlock : Stmts → Type 0
+IsBlock ss = (w : Surroundings) × AreFormedStmts w ss
+
+pub record ClassesApart (p : Program) : Type 0 where
+  pub body : (names : ℕ) × AreFormedHere names p.body
+  pub numbers : NumbersApart p.body
+  pub rows : (f : ℕ) (row : FunRow) → fun_at p f ≡ Some row → IsBlock row.body
+
+abbrev pub Block : Program → Stmts → Type 0
+Block p ss = ClassesApart p → IsBlock ss
+
+-- ---- what becomes of an object
+
+abbrev pub own_entries : Object → Entries
+own_entries (object.class c es) = es
+own_entries _ = []
+
+pub record Became (o q : Object) : Type 0 where
+  pub same : head q ≡ head o
+  pub names : (name : ℕ) → is_some (entry (own_entries o) name) ≡ true → is_some (entry (own_entries q) name) ≡ true
+
+pub became_self : (o : Object) → Became o o
+became_self o = record { same = refl; names = λ name e. e }
+
+became_on : (o q r : Object) → Became o q → Became q r → Became o r
+became_on o q r a b = record { same = b.same ∙ a.same; names = λ name e. b.names name (a.names name e) }
+
+head_refilled : (o : Object) (new : Filling) → head (refilled o new) ≡ head o
+head_refilled (object.list site vs) (of_values ws) = refl
+head_refilled (object.dict site qs) (of_pairs rs) = refl
+head_refilled (object.instance c es) (of_entries ds) = refl
+head_refilled (object.class c es) (of_entries ds) = refl
+head_refilled o new = refl
+
+pub class_of_head : (o : Object) → class_number (head o) ≡ class_number o
+class_of_head (object.class c es) = refl
+class_of_head o = refl
+
+kind_of_head : (o : Object) → kind_of_object (head o) ≡ kind_of_object o
+kind_of_head (object.list site vs) = refl
+kind_of_head o = refl
+
+instance_of_head : (o : Object) → is_instance (head o) ≡ is_instance o
+instance_of_head (object.instance c es) = refl
+instance_of_head o = refl
+
+pub same_class : (o q : Object) → head q ≡ head o → class_number q ≡ class_number o
+same_class o q e = sym (class_of_head q) ∙ ap class_number e ∙ class_of_head o
+
+same_kind : (o q : Object) → head q ≡ head o → kind_of_object q ≡ kind_of_object o
+same_kind o q e = sym (kind_of_head q) ∙ ap kind_of_object e ∙ kind_of_head o
+
+same_sort : (o q : Object) → head q ≡ head o → is_instance q ≡ is_instance o
+same_sort o q e = sym (instance_of_head q) ∙ ap is_instance e ∙ instance_of_head o
+
+-- ---- fillings
+
+entry_if : (b : Bool) (es ds : Entries) (name : ℕ) → entry (if b then es else ds) name ≡ (if b then entry es name else entry ds name)
+entry_if true es ds name = refl
+entry_if false es ds name = refl
+
+still_there : (b c d : Bool) (x v : Value) (o later : Option Value) → (b ≡ true → c ≡ true → d ≡ true) → (is_some o ≡ true → is_some later ≡ true) →
+    is_some (if c then Some x else o) ≡ true → is_some (if b then if d then Some v else o else if c then Some x else later) ≡ true
+still_there true true true x v o later h k e = refl
+still_there true true false x v o later h k e = absurd (grind (arith, h refl refl))
+still_there true false true x v o later h k e = refl
+still_there true false false x v o later h k e = e
+still_there false true d x v o later h k e = refl
+still_there false false d x v o later h k e = k e
+
+same_numbers : (a b c : ℕ) → (a == b) ≡ true → (a == c) ≡ true → (b == c) ≡ true
+same_numbers a b c e f = grind (arith, e, f)
+
+with_entry_keeps : (es : Entries) (at : ℕ) (v : Value) (name : ℕ) → is_some (entry es name) ≡ true → is_some (entry (with_entry es at v) name) ≡ true
+with_entry_keeps [] at v name e = absurd (grind (arith, e))
+with_entry_keeps (x ∷ es) at v name e =
+    subst (λ o. is_some o ≡ true) (sym (entry_if (x.0 == at) ((at, v) ∷ es) (x ∷ with_entry es at v) name))
+    (still_there (x.0 == at) (x.0 == name) (at == name) x.1 v (entry es name) (entry (with_entry es at v) name) (same_numbers x.0 at name) (with_entry_keeps es at v name) e)
+
+filled_values : (o : Object) (vs : List Value) → Became o (refilled o (of_values vs))
+filled_values (object.list site ws) vs = record { same = refl; names = λ name e. e }
+filled_values o vs = record { same = refl; names = λ name e. e }
+
+filled_pairs : (o : Object) (qs : List (Value × Value)) → Became o (refilled o (of_pairs qs))
+filled_pairs (object.dict site ws) qs = record { same = refl; names = λ name e. e }
+filled_pairs o qs = record { same = refl; names = λ name e. e }
+
+pub filled_instance : (c at : ℕ) (es : Entries) (v : Value) → Became (object.instance c es) (refilled (object.instance c es) (of_entries (with_entry es at v)))
+filled_instance c at es v = record { same = refl; names = λ name e. e }
+
+pub filled_class : (c at : ℕ) (es : Entries) (v : Value) → Became (object.class c es) (refilled (object.class c es) (of_entries (with_entry es at v)))
+filled_class c at es v = record { same = refl; names = with_entry_keeps es at v }
+
+-- ---- heaps
+
+-- nothing but the statements of its classes makes an object of a class of the module, where those stand apart
+abbrev pub IsNew : Program → Object → Type 0
+IsNew p o = ClassesApart p → class_number o ≡ None
+
+abbrev pub AreNew : Program → Heap → Type 0
+AreNew p [] = Unit {0}
+AreNew p (o ∷ os) = IsNew p o × AreNew p os
+
+abbrev Follows : Program → Heap → Heap → Type 0
+Follows p [] ks = AreNew p ks
+Follows p (o ∷ os) [] = ⊥
+Follows p (o ∷ os) (q ∷ qs) = Became o q × Follows p os qs
+
+pub record Grown (p : Program) (n k : Heap) : Type 0 where
+  pub objects : Follows p n k
+
+follows_self : (p : Program) (os : Heap) → Follows p os os
+follows_self p [] = tt
+follows_self p (o ∷ os) = (became_self o, follows_self p os)
+
+still_new : (p : Program) (os qs : Heap) → AreNew p os → Follows p os qs → AreNew p qs
+still_new p [] qs h w = w
+still_new p (o ∷ os) [] h w = absurd w
+still_new p (o ∷ os) (q ∷ qs) h w = (λ c. same_class o q w.0.same ∙ h.0 c, still_new p os qs h.1 w.1)
+
+follows_on : (p : Program) (os qs rs : Heap) → Follows p os qs → Follows p qs rs → Follows p os rs
+follows_on p [] qs rs h w = still_new p qs rs h w
+follows_on p (o ∷ os) [] rs h w = absurd h
+follows_on p (o ∷ os) (q ∷ qs) [] h w = absurd w
+follows_on p (o ∷ os) (q ∷ qs) (r ∷ rs) h w = (became_on o q r h.0 w.0, follows_on p os qs rs h.1 w.1)
+
+follows_push : (p : Program) (os : Heap) (o : Object) → IsNew p o → Follows p os (os ++ o ∷ [])
+follows_push p [] o h = (h, tt)
+follows_push p (x ∷ os) o h = (became_self x, follows_push p os o h)
+
+follows_set : (p : Program) (os : Heap) (place : ℕ) (q : Object) → Became (unwrap_or (slice_get os place) (object.outside term.any)) q → Follows p os (slice_set os place q)
+follows_set p [] place q h = tt
+follows_set p (o ∷ os) zero q h = (h, follows_self p os)
+follows_set p (o ∷ os) (suc place) q h = (became_self o, follows_set p os place q h)
+
+follows_length : (p : Program) (os qs : Heap) → Follows p os qs → length os ≤ length qs
+follows_length p [] qs h = omega arith
+follows_length p (o ∷ os) [] h = absurd h
+follows_length p (o ∷ os) (q ∷ qs) h = let rest : length os ≤ length qs = follows_length p os qs h.1 in omega arith
+
+follows_at : (p : Program) (os qs : Heap) (place : ℕ) → Follows p os qs → place < length os → Became (unwrap_or (slice_get os place) (object.outside term.any)) (unwrap_or (slice_get qs place) (object.outside term.any))
+follows_at p [] qs place h lt = absurd (omega (arith, lt))
+follows_at p (o ∷ os) [] place h lt = absurd h
+follows_at p (o ∷ os) (q ∷ qs) zero h lt = h.0
+follows_at p (o ∷ os) (q ∷ qs) (suc place) h lt = follows_at p os qs place h.1 (omega (arith, lt))
+
+pub grown_self : {p : Program} (n : Heap) → Grown p n n
+grown_self {p} n = record { objects = follows_self p n }
+
+pub grown_on : {p : Program} {n k j : Heap} → Grown p n k → Grown p k j → Grown p n j
+grown_on {p} {n} {k} {j} a b = record { objects = follows_on p n k j a.objects b.objects }
+
+pub grown_push : {p : Program} (n : Heap) (o : Object) → IsNew p o → Grown p n (n ++ o ∷ [])
+grown_push {p} n o h = record { objects = follows_push p n o h }
+
+pub grown_set : {p : Program} (n : Heap) (place : ℕ) (q : Object) → Became (object_at n place) q → Grown p n (slice_set n place q)
+grown_set {p} n place q h = record { objects = follows_set p n place q h }
+
+pub longer : {p : Program} {n k : Heap} → Grown p n k → length n ≤ length k
+longer {p} {n} {k} g = follows_length p n k g.objects
+
+pub became_at : {p : Program} {n k : Heap} (place : ℕ) → Grown p n k → place < length n → Became (object_at n place) (object_at k place)
+became_at {p} {n} {k} place g lt = follows_at p n k place g.objects lt
