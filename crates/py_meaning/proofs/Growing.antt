@@ -69,10 +69,10 @@ instance_of_head o = refl
 pub same_class : (o q : Object) → head q ≡ head o → class_number q ≡ class_number o
 same_class o q e = sym (class_of_head q) ∙ ap class_number e ∙ class_of_head o
 
-same_kind : (o q : Object) → head q ≡ head o → kind_of_object q ≡ kind_of_object o
+pub same_kind : (o q : Object) → head q ≡ head o → kind_of_object q ≡ kind_of_object o
 same_kind o q e = sym (kind_of_head q) ∙ ap kind_of_object e ∙ kind_of_head o
 
-same_sort : (o q : Object) → head q ≡ head o → is_instance q ≡ is_instance o
+pub same_sort : (o q : Object) → head q ≡ head o → is_instance q ≡ is_instance o
 same_sort o q e = sym (instance_of_head q) ∙ ap is_instance e ∙ instance_of_head o
 
 -- ---- fillings
@@ -99,11 +99,11 @@ with_entry_keeps (x ∷ es) at v name e =
     subst (λ o. is_some o ≡ true) (sym (entry_if (x.0 == at) ((at, v) ∷ es) (x ∷ with_entry es at v) name))
     (still_there (x.0 == at) (x.0 == name) (at == name) x.1 v (entry es name) (entry (with_entry es at v) name) (same_numbers x.0 at name) (with_entry_keeps es at v name) e)
 
-filled_values : (o : Object) (vs : List Value) → Became o (refilled o (of_values vs))
+pub filled_values : (o : Object) (vs : List Value) → Became o (refilled o (of_values vs))
 filled_values (object.list site ws) vs = record { same = refl; names = λ name e. e }
 filled_values o vs = record { same = refl; names = λ name e. e }
 
-filled_pairs : (o : Object) (qs : List (Value × Value)) → Became o (refilled o (of_pairs qs))
+pub filled_pairs : (o : Object) (qs : List (Value × Value)) → Became o (refilled o (of_pairs qs))
 filled_pairs (object.dict site ws) qs = record { same = refl; names = λ name e. e }
 filled_pairs o qs = record { same = refl; names = λ name e. e }
 

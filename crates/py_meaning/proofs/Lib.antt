@@ -14,6 +14,8 @@ pub mod Ending
 pub mod More
 pub mod Endings
 pub mod Growing
+pub mod Pointing
+pub mod OwnViews
 pub mod Kept
 pub mod KeptValues
 pub mod KeptParts
