@@ -115,71 +115,87 @@ filled_class c at es v = record { same = refl; names = with_entry_keeps es at v 
 
 -- ---- heaps
 
+-- Under a premise a new object is of no class of the module.
+abbrev pub IsNew : Type 0 → Object → Type 0
+IsNew W o = W → class_number o ≡ None
+
+abbrev pub AreNew : Type 0 → Heap → Type 0
+AreNew W [] = Unit {0}
+AreNew W (o ∷ os) = IsNew W o × AreNew W os
+
+abbrev Follows : Type 0 → Heap → Heap → Type 0
+Follows W [] ks = AreNew W ks
+Follows W (o ∷ os) [] = ⊥
+Follows W (o ∷ os) (q ∷ qs) = Became o q × Follows W os qs
+
+pub record Grows (W : Type 0) (n k : Heap) : Type 0 where
+  pub objects : Follows W n k
+
 -- nothing but the statements of its classes makes an object of a class of the module, where those stand apart
-abbrev pub IsNew : Program → Object → Type 0
-IsNew p o = ClassesApart p → class_number o ≡ None
+abbrev pub Grown : Program → Heap → Heap → Type 0
+Grown p n k = Grows (ClassesApart p) n k
 
-abbrev pub AreNew : Program → Heap → Type 0
-AreNew p [] = Unit {0}
-AreNew p (o ∷ os) = IsNew p o × AreNew p os
+follows_self : (W : Type 0) (os : Heap) → Follows W os os
+follows_self W [] = tt
+follows_self W (o ∷ os) = (became_self o, follows_self W os)
 
-abbrev Follows : Program → Heap → Heap → Type 0
-Follows p [] ks = AreNew p ks
-Follows p (o ∷ os) [] = ⊥
-Follows p (o ∷ os) (q ∷ qs) = Became o q × Follows p os qs
+still_new : (W : Type 0) (os qs : Heap) → AreNew W os → Follows W os qs → AreNew W qs
+still_new W [] qs h w = w
+still_new W (o ∷ os) [] h w = absurd w
+still_new W (o ∷ os) (q ∷ qs) h w = (λ c. same_class o q w.0.same ∙ h.0 c, still_new W os qs h.1 w.1)
 
-pub record Grown (p : Program) (n k : Heap) : Type 0 where
-  pub objects : Follows p n k
+follows_on : (W : Type 0) (os qs rs : Heap) → Follows W os qs → Follows W qs rs → Follows W os rs
+follows_on W [] qs rs h w = still_new W qs rs h w
+follows_on W (o ∷ os) [] rs h w = absurd h
+follows_on W (o ∷ os) (q ∷ qs) [] h w = absurd w
+follows_on W (o ∷ os) (q ∷ qs) (r ∷ rs) h w = (became_on o q r h.0 w.0, follows_on W os qs rs h.1 w.1)
 
-follows_self : (p : Program) (os : Heap) → Follows p os os
-follows_self p [] = tt
-follows_self p (o ∷ os) = (became_self o, follows_self p os)
+follows_push : (W : Type 0) (os : Heap) (o : Object) → IsNew W o → Follows W os (os ++ o ∷ [])
+follows_push W [] o h = (h, tt)
+follows_push W (x ∷ os) o h = (became_self x, follows_push W os o h)
 
-still_new : (p : Program) (os qs : Heap) → AreNew p os → Follows p os qs → AreNew p qs
-still_new p [] qs h w = w
-still_new p (o ∷ os) [] h w = absurd w
-still_new p (o ∷ os) (q ∷ qs) h w = (λ c. same_class o q w.0.same ∙ h.0 c, still_new p os qs h.1 w.1)
+follows_set : (W : Type 0) (os : Heap) (place : ℕ) (q : Object) → Became (unwrap_or (slice_get os place) (object.outside term.any)) q → Follows W os (slice_set os place q)
+follows_set W [] place q h = tt
+follows_set W (o ∷ os) zero q h = (h, follows_self W os)
+follows_set W (o ∷ os) (suc place) q h = (became_self o, follows_set W os place q h)
 
-follows_on : (p : Program) (os qs rs : Heap) → Follows p os qs → Follows p qs rs → Follows p os rs
-follows_on p [] qs rs h w = still_new p qs rs h w
-follows_on p (o ∷ os) [] rs h w = absurd h
-follows_on p (o ∷ os) (q ∷ qs) [] h w = absurd w
-follows_on p (o ∷ os) (q ∷ qs) (r ∷ rs) h w = (became_on o q r h.0 w.0, follows_on p os qs rs h.1 w.1)
+follows_length : (W : Type 0) (os qs : Heap) → Follows W os qs → length os ≤ length qs
+follows_length W [] qs h = omega arith
+follows_length W (o ∷ os) [] h = absurd h
+follows_length W (o ∷ os) (q ∷ qs) h = let rest : length os ≤ length qs = follows_length W os qs h.1 in omega arith
 
-follows_push : (p : Program) (os : Heap) (o : Object) → IsNew p o → Follows p os (os ++ o ∷ [])
-follows_push p [] o h = (h, tt)
-follows_push p (x ∷ os) o h = (became_self x, follows_push p os o h)
+follows_at : (W : Type 0) (os qs : Heap) (place : ℕ) → Follows W os qs → place < length os → Became (unwrap_or (slice_get os place) (object.outside term.any)) (unwrap_or (slice_get qs place) (object.outside term.any))
+follows_at W [] qs place h lt = absurd (omega (arith, lt))
+follows_at W (o ∷ os) [] place h lt = absurd h
+follows_at W (o ∷ os) (q ∷ qs) zero h lt = h.0
+follows_at W (o ∷ os) (q ∷ qs) (suc place) h lt = follows_at W os qs place h.1 (omega (arith, lt))
 
-follows_set : (p : Program) (os : Heap) (place : ℕ) (q : Object) → Became (unwrap_or (slice_get os place) (object.outside term.any)) q → Follows p os (slice_set os place q)
-follows_set p [] place q h = tt
-follows_set p (o ∷ os) zero q h = (h, follows_self p os)
-follows_set p (o ∷ os) (suc place) q h = (became_self o, follows_set p os place q h)
+pub grown_self : {W : Type 0} (n : Heap) → Grows W n n
+grown_self {W} n = record { objects = follows_self W n }
 
-follows_length : (p : Program) (os qs : Heap) → Follows p os qs → length os ≤ length qs
-follows_length p [] qs h = omega arith
-follows_length p (o ∷ os) [] h = absurd h
-follows_length p (o ∷ os) (q ∷ qs) h = let rest : length os ≤ length qs = follows_length p os qs h.1 in omega arith
+pub grown_on : {W : Type 0} {n k j : Heap} → Grows W n k → Grows W k j → Grows W n j
+grown_on {W} {n} {k} {j} a b = record { objects = follows_on W n k j a.objects b.objects }
 
-follows_at : (p : Program) (os qs : Heap) (place : ℕ) → Follows p os qs → place < length os → Became (unwrap_or (slice_get os place) (object.outside term.any)) (unwrap_or (slice_get qs place) (object.outside term.any))
-follows_at p [] qs place h lt = absurd (omega (arith, lt))
-follows_at p (o ∷ os) [] place h lt = absurd h
-follows_at p (o ∷ os) (q ∷ qs) zero h lt = h.0
-follows_at p (o ∷ os) (q ∷ qs) (suc place) h lt = follows_at p os qs place h.1 (omega (arith, lt))
+pub grown_push : {W : Type 0} (n : Heap) (o : Object) → IsNew W o → Grows W n (n ++ o ∷ [])
+grown_push {W} n o h = record { objects = follows_push W n o h }
 
-pub grown_self : {p : Program} (n : Heap) → Grown p n n
-grown_self {p} n = record { objects = follows_self p n }
+pub grown_set : {W : Type 0} (n : Heap) (place : ℕ) (q : Object) → Became (object_at n place) q → Grows W n (slice_set n place q)
+grown_set {W} n place q h = record { objects = follows_set W n place q h }
 
-pub grown_on : {p : Program} {n k j : Heap} → Grown p n k → Grown p k j → Grown p n j
-grown_on {p} {n} {k} {j} a b = record { objects = follows_on p n k j a.objects b.objects }
+pub longer : {W : Type 0} {n k : Heap} → Grows W n k → length n ≤ length k
+longer {W} {n} {k} g = follows_length W n k g.objects
 
-pub grown_push : {p : Program} (n : Heap) (o : Object) → IsNew p o → Grown p n (n ++ o ∷ [])
-grown_push {p} n o h = record { objects = follows_push p n o h }
+pub became_at : {W : Type 0} {n k : Heap} (place : ℕ) → Grows W n k → place < length n → Became (object_at n place) (object_at k place)
+became_at {W} {n} {k} place g lt = follows_at W n k place g.objects lt
 
-pub grown_set : {p : Program} (n : Heap) (place : ℕ) (q : Object) → Became (object_at n place) q → Grown p n (slice_set n place q)
-grown_set {p} n place q h = record { objects = follows_set p n place q h }
+class_before : (W : Type 0) (os qs : Heap) (i c : ℕ) → W → Follows W os qs → class_number (object_at qs i) ≡ Some c → class_number (object_at os i) ≡ Some c
+class_before W [] [] i c w h e = e
+class_before W [] (q ∷ qs) zero c w h e = sym (h.0 w) ∙ e
+class_before W [] (q ∷ qs) (suc i) c w h e = class_before W [] qs i c w h.1 e
+class_before W (o ∷ os) [] i c w h e = absurd h
+class_before W (o ∷ os) (q ∷ qs) zero c w h e = sym (same_class o q h.0.same) ∙ e
+class_before W (o ∷ os) (q ∷ qs) (suc i) c w h e = class_before W os qs i c w h.1 e
 
-pub longer : {p : Program} {n k : Heap} → Grown p n k → length n ≤ length k
-longer {p} {n} {k} g = follows_length p n k g.objects
-
-pub became_at : {p : Program} {n k : Heap} (place : ℕ) → Grown p n k → place < length n → Became (object_at n place) (object_at k place)
-became_at {p} {n} {k} place g lt = follows_at p n k place g.objects lt
+-- an object of a class was there before
+pub grown_class : {W : Type 0} {n k : Heap} (i c : ℕ) → Grows W n k → W → class_number (object_at k i) ≡ Some c → class_number (object_at n i) ≡ Some c
+grown_class {W} {n} {k} i c g w e = class_before W n k i c w g.objects e

@@ -11,7 +11,7 @@ use Rattle.py_meaning.specs.Holds.{Account, Lasts, Post, Holds}
 use Rattle.py_meaning.specs.ClassLaws.{class_number, OneObjectAClass}
 use Rattle.py_meaning.specs.Receivers.{is_instance, is_instance_at}
 use Rattle.py_meaning.proofs.Holding.{holds_attempt}
-use Rattle.py_meaning.proofs.Growing.{Heap, ClassesApart, Block, Became, IsNew, Grown, grown_self, grown_on, grown_push, grown_set, same_class, filled_values, filled_pairs, filled_instance, filled_class}
+use Rattle.py_meaning.proofs.Growing.{Heap, ClassesApart, Block, Became, IsNew, Grows, Grown, grown_self, grown_on, grown_push, grown_set, same_class, filled_values, filled_pairs, filled_instance, filled_class}
 use Rattle.py_meaning.proofs.Pointing.{IsWithin, AreWithin, EntriesWithin, PairsWithin, OptionWithin, ObjectWithin, ObjectsWithin, within_on, are_on, entries_on, pairs_on, option_on, object_on, objects_on, get_within, with_entry_within}
 
 -- ---- memory
@@ -20,7 +20,7 @@ abbrev pub FrameWithin : Heap → Option Frame → Type 0
 FrameWithin n None = Unit {0}
 FrameWithin n (Some f) = EntriesWithin n f.locals
 
-pub frame_on : {p : Program} (n k : Heap) (o : Option Frame) → Grown p n k → FrameWithin n o → FrameWithin k o
+pub frame_on : {W : Type 0} (n k : Heap) (o : Option Frame) → Grows W n k → FrameWithin n o → FrameWithin k o
 frame_on n k None le h = tt
 frame_on n k (Some f) le h = entries_on n k f.locals le h
 
@@ -29,7 +29,7 @@ pub record ScopeWithin (n : Heap) (c : Scope) : Type 0 where
   pub frame : FrameWithin n c.frame
   pub handled : OptionWithin n c.handled
 
-pub scope_on : {p : Program} (n k : Heap) (c : Scope) → Grown p n k → ScopeWithin n c → ScopeWithin k c
+pub scope_on : {W : Type 0} (n k : Heap) (c : Scope) → Grows W n k → ScopeWithin n c → ScopeWithin k c
 scope_on n k c le h = record { globals = entries_on n k c.globals le h.globals; frame = frame_on n k c.frame le h.frame; handled = option_on n k c.handled le h.handled }
 
 pub record Good (p : Program) (m : Memory) : Type 0 where
@@ -143,11 +143,11 @@ made_within : (p : Program) (n : Heap) (o : Object) → CanMake p n o → Object
 made_within p n (object.class c es) h = h.0
 made_within p n o h = h
 
-made_new : (p : Program) (n : Heap) (o : Object) → CanMake p n o → IsNew p o
+made_new : (p : Program) (n : Heap) (o : Object) → CanMake p n o → IsNew (ClassesApart p) o
 made_new p n (object.class c es) h = λ c. absurd (h.1 c)
 made_new p n o h = λ c. refl
 
-push_at : (os : Heap) (o : Object) (i c : ℕ) → class_number (object_at (os ++ o ∷ []) i) ≡ Some c → (class_number (object_at os i) ≡ Some c) ⊎ ((i ≡ length os) × (class_number o ≡ Some c))
+pub push_at : (os : Heap) (o : Object) (i c : ℕ) → class_number (object_at (os ++ o ∷ []) i) ≡ Some c → (class_number (object_at os i) ≡ Some c) ⊎ ((i ≡ length os) × (class_number o ≡ Some c))
 push_at [] o zero c e = inr (refl, e)
 push_at [] o (suc i) c e = inl e
 push_at (x ∷ os) o zero c e = inl e
@@ -167,7 +167,7 @@ push_one os o one apart c i j a b = meet (push_at os o i c a) (push_at os o j c 
     meet (inr x) (inl y) = absurd (apart c j x.1 y)
     meet (inr x) (inr y) = x.0 ∙ sym y.0
 
-pub good_push : {p : Program} (m : Memory) (o : Object) → Good p m → Grown p m.heap (m.heap ++ o ∷ []) → ObjectWithin m.heap o → (ClassesApart p → OneObjectAClass (m.heap ++ o ∷ [])) → Good p (with_new o m)
+pub good_push : {p : Program} {W : Type 0} (m : Memory) (o : Object) → Good p m → Grows W m.heap (m.heap ++ o ∷ []) → ObjectWithin m.heap o → (ClassesApart p → OneObjectAClass (m.heap ++ o ∷ [])) → Good p (with_new o m)
 good_push m o good le h one = record {
   heap = objects_push (m.heap ++ o ∷ []) m.heap o (objects_on m.heap (m.heap ++ o ∷ []) m.heap le good.heap) (object_on m.heap (m.heap ++ o ∷ []) o le h);
   scope = scope_on m.heap (m.heap ++ o ∷ []) m.scope le good.scope;
@@ -184,7 +184,7 @@ some_none c (Some d) e f = absurd (grind (arith, e))
 pub safe_allocate : {p : Program} (n : Heap) (o : Object) → CanMake p n o → Safe p n IsWithin (allocate o)
 safe_allocate {p} n o h = record {
   keeps = λ m good le base low.
-      let new : IsNew p o = made_new p n o h in
+      let new : IsNew (ClassesApart p) o = made_new p n o h in
       let up : Grown p m.heap (m.heap ++ o ∷ []) = grown_push m.heap o new in (
         tt,
         tt,

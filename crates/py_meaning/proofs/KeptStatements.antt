@@ -31,7 +31,7 @@ use Rattle.py_meaning.specs.Imports.{module_name, module_value, imported_item, b
 use Rattle.py_meaning.specs.Exceptions.{made_exception, is_exception_value, raise_value, raise_made, handled_or_error, raise_again, raise_assertion, with_handled, handling}
 use Rattle.py_meaning.specs.Statements as statements
 use Rattle.py_meaning.specs.Statements.{and_on, then_next, evaluated, returned_value, assertion, annotated_target, annotation, through, run_while, for_step, run_for, once_more, with_member, set_member, put_member, put_members, put_method, put_methods, fill_class, define_class, define_function, named, exec, exec_kind, exec_all, exec_arms, exec_handlers}
-use Rattle.py_meaning.specs.Actions.{is_even, Frame, Scope, Argument, Flow, goes_on, breaks, continues, returns, Request, call, while_turn, for_turn, outside_call, Outcome, came, threw, Action, gives, raises, turn, looks, bind, then_do, changes, afterwards, allocate, refill, anything, may_raise, raise_builtin, fails, done}
+use Rattle.py_meaning.specs.Actions.{Memory, is_even, Frame, Scope, Argument, Flow, goes_on, breaks, continues, returns, Request, call, while_turn, for_turn, outside_call, Outcome, came, threw, Action, gives, raises, turn, looks, bind, then_do, changes, afterwards, allocate, refill, anything, may_raise, raise_builtin, fails, done}
 use Rattle.scope_rules.specs.WellFormed.{Surroundings, looped, IsFormedKind, AreFormedArms, AreFormedHandlers}
 use Rattle.py_meaning.proofs.Growing.{ClassesApart, Block, Heap, Grown, grown_self, grown_on}
 use Rattle.py_meaning.proofs.Pointing.{AreWithin, EntriesWithin, IsWithin, ObjectWithin, OptionWithin, PairsWithin, are_on, entry_within, option_on, with_entry_within, within_on, without_entry_within}
@@ -368,7 +368,7 @@ flow_on n k continues le h = tt
 pub gives_flow : {p : Program} (n : Heap) (flow : Flow) → FlowWithin n flow → Safe p n FlowWithin (gives flow)
 gives_flow n flow h = safe_give n FlowWithin flow (λ k le. flow_on n k flow le h)
 
-and_on_safe : {p : Program} {A : Type 0} (n : Heap) (P : Heap → A → Type 0) (a : Action A) → Safe p n P a → Safe p n FlowWithin (and_on a)
+pub and_on_safe : {p : Program} {A : Type 0} (n : Heap) (P : Heap → A → Type 0) (a : Action A) → Safe p n P a → Safe p n FlowWithin (and_on a)
 and_on_safe n P a h = safe_bind n P FlowWithin a (λ x. gives goes_on) h (λ x k le w. gives_flow k goes_on tt)
 
 pub then_next_safe : {p : Program} (n : Heap) (flow : Flow) (a : Action Flow) → FlowWithin n flow → Safe p n FlowWithin a → Safe p n FlowWithin (then_next flow a)
@@ -475,7 +475,7 @@ define_class_safe p (class_def id name base ms line) n h =
     safe_bind n IsWithin Free (allocate (object.class id [])) (λ c. then_do (fill_class p ms c) (store p name c)) (safe_allocate n (object.class id []) (tt, h)) (λ c k le w.
     safe_then k Free Free (fill_class p ms c) (store p name c) (fill_class_safe p ms k c) (λ j le'. store_safe p j name c (within_on k j c le' w)))
 
-define_function_safe : (p : Program) (f : FunDef) (n : Heap) → Safe p n Free (define_function p f)
+pub define_function_safe : (p : Program) (f : FunDef) (n : Heap) → Safe p n Free (define_function p f)
 define_function_safe p (fun_def id name params body line) n = safe_bind n IsWithin Free (allocate (object.function id)) (store p name) (safe_allocate n (object.function id) tt) (λ v k le w. store_safe p k name v w)
 
 -- ---- statements
@@ -509,10 +509,7 @@ abbrev BlockHandlers : Program → Handlers → Type 0
 BlockHandlers p hs = ClassesApart p → ((w : Surroundings) × AreFormedHandlers w hs)
 
 mutual
-  pub exec_safe : (p : Program) (kind : StmtKind) (line : ℕ) (n : Heap) → BlockKind p kind → Safe p n FlowWithin (exec p (statement kind line))
-  exec_safe p kind line n b = exec_kind_safe p kind line n b
-
-  exec_kind_safe : (p : Program) (s : StmtKind) (line : ℕ) (n : Heap) → BlockKind p s → Safe p n FlowWithin (exec_kind p s line)
+  pub exec_kind_safe : (p : Program) (s : StmtKind) (line : ℕ) (n : Heap) → BlockKind p s → Safe p n FlowWithin (exec_kind p s line)
   exec_kind_safe p tree.pass line n b = gives_flow n goes_on tt
   exec_kind_safe p tree.break line n b = gives_flow n breaks tt
   exec_kind_safe p tree.continue line n b = gives_flow n continues tt
@@ -539,7 +536,7 @@ mutual
 
   pub exec_all_safe : (p : Program) (ss : Stmts) (n : Heap) → Block p ss → Safe p n FlowWithin (exec_all p ss)
   exec_all_safe p no_stmts n b = gives_flow n goes_on tt
-  exec_all_safe p (stmt (statement kind line) ss) n b = safe_bind n FlowWithin FlowWithin (exec p (statement kind line)) (λ flow. then_next flow (exec_all p ss)) (exec_safe p kind line n (λ c. ((b c).0, (b c).1.0))) (λ flow k le w. then_next_safe k flow (exec_all p ss) w (exec_all_safe p ss k (λ c. ((b c).0, (b c).1.1))))
+  exec_all_safe p (stmt (statement kind line) ss) n b = safe_bind n FlowWithin FlowWithin (exec p (statement kind line)) (λ flow. then_next flow (exec_all p ss)) (exec_kind_safe p kind line n (λ c. ((b c).0, (b c).1.0))) (λ flow k le w. then_next_safe k flow (exec_all p ss) w (exec_all_safe p ss k (λ c. ((b c).0, (b c).1.1))))
 
   exec_arms_safe : (p : Program) (as' : Arms) (others : Action Flow) (n : Heap) → BlockArms p as' → ((k : Heap) → Grown p n k → Safe p k FlowWithin others) → Safe p n FlowWithin (exec_arms p as' others)
   exec_arms_safe p no_arms others n b h = h n (grown_self n)

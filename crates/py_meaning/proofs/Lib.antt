@@ -22,6 +22,7 @@ pub mod KeptParts
 pub mod KeptNatives
 pub mod KeptStatements
 pub mod KeptRuns
+pub mod KeptModules
 mod Belonging
 mod Unions
 mod KindTables

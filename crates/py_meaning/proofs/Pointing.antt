@@ -4,10 +4,9 @@ use Rattle.type_terms.specs.Terms as term
 use Rattle.py_meaning.specs.Values.{Value, none, truth, whole, float, text, octets, ref, Entries, entry, with_entry, without_entry}
 use Rattle.py_meaning.specs.Objects as object
 use Rattle.py_meaning.specs.Objects.{Object, Foreign, builtin, stub_fun, stub_class, stub_method, Filling, of_values, of_pairs, of_entries, refilled, object_at, kind_of}
-use Rattle.py_meaning.specs.Programs.{Program}
 use Rattle.py_meaning.specs.References as points
 use Rattle.py_meaning.specs.Receivers.{is_instance_at, IsTakenAs, IsMethodOf, IsDict, HasItsDict, HasItsRow, IsUnbound}
-use Rattle.py_meaning.proofs.Growing.{Heap, Became, Grown, longer, became_at, same_kind, same_sort}
+use Rattle.py_meaning.proofs.Growing.{Heap, Became, Grows, longer, became_at, same_kind, same_sort}
 
 abbrev pub IsWithin : Heap → Value → Type 0
 IsWithin n v = points.IsWithin (length n) v
@@ -44,7 +43,7 @@ ObjectsWithin n (o ∷ os) = ObjectWithin n o × ObjectsWithin n os
 
 -- ---- what is within a heap is within each that goes on from it
 
-pub within_on : {p : Program} (n k : Heap) (v : Value) → Grown p n k → IsWithin n v → IsWithin k v
+pub within_on : {W : Type 0} (n k : Heap) (v : Value) → Grows W n k → IsWithin n v → IsWithin k v
 within_on n k none le h = tt
 within_on n k (truth b) le h = tt
 within_on n k (whole z) le h = tt
@@ -53,47 +52,47 @@ within_on n k (text e) le h = tt
 within_on n k (octets e) le h = tt
 within_on n k (ref place) le h = let up : length n ≤ length k = longer le in omega arith
 
-pub are_on : {p : Program} (n k : Heap) (vs : List Value) → Grown p n k → AreWithin n vs → AreWithin k vs
+pub are_on : {W : Type 0} (n k : Heap) (vs : List Value) → Grows W n k → AreWithin n vs → AreWithin k vs
 are_on n k [] le h = tt
 are_on n k (v ∷ vs) le h = (within_on n k v le h.0, are_on n k vs le h.1)
 
-pub entries_on : {p : Program} (n k : Heap) (es : Entries) → Grown p n k → EntriesWithin n es → EntriesWithin k es
+pub entries_on : {W : Type 0} (n k : Heap) (es : Entries) → Grows W n k → EntriesWithin n es → EntriesWithin k es
 entries_on n k [] le h = tt
 entries_on n k (e ∷ es) le h = (within_on n k e.1 le h.0, entries_on n k es le h.1)
 
-pub pairs_on : {p : Program} (n k : Heap) (qs : List (Value × Value)) → Grown p n k → PairsWithin n qs → PairsWithin k qs
+pub pairs_on : {W : Type 0} (n k : Heap) (qs : List (Value × Value)) → Grows W n k → PairsWithin n qs → PairsWithin k qs
 pairs_on n k [] le h = tt
 pairs_on n k (q ∷ qs) le h = (within_on n k q.0 le h.0, within_on n k q.1 le h.1, pairs_on n k qs le h.2)
 
-pub option_on : {p : Program} (n k : Heap) (o : Option Value) → Grown p n k → OptionWithin n o → OptionWithin k o
+pub option_on : {W : Type 0} (n k : Heap) (o : Option Value) → Grows W n k → OptionWithin n o → OptionWithin k o
 option_on n k None le h = tt
 option_on n k (Some v) le h = within_on n k v le h
 
-kind_on : {p : Program} (n k : Heap) (v : Value) → Grown p n k → IsWithin n v → kind_of k v ≡ kind_of n v
+kind_on : {W : Type 0} (n k : Heap) (v : Value) → Grows W n k → IsWithin n v → kind_of k v ≡ kind_of n v
 kind_on n k (ref place) le h = same_kind (object_at n place) (object_at k place) (became_at place le h).same
 kind_on n k none le h = refl
 kind_on n k v le h = refl
 
-pub sort_on : {p : Program} (n k : Heap) (v : Value) → Grown p n k → IsWithin n v → is_instance_at k v ≡ is_instance_at n v
+pub sort_on : {W : Type 0} (n k : Heap) (v : Value) → Grows W n k → IsWithin n v → is_instance_at k v ≡ is_instance_at n v
 sort_on n k (ref place) le h = same_sort (object_at n place) (object_at k place) (became_at place le h).same
 sort_on n k none le h = refl
 sort_on n k v le h = refl
 
-pub method_on : {p : Program} (n k : Heap) (v : Value) (number : ℕ) → Grown p n k → IsWithin n v → IsMethodOf n v number → IsMethodOf k v number
+pub method_on : {W : Type 0} (n k : Heap) (v : Value) (number : ℕ) → Grows W n k → IsWithin n v → IsMethodOf n v number → IsMethodOf k v number
 method_on n k v number le h (b, name, inl e, at) = (b, name, inl (kind_on n k v le h ∙ e), at)
 method_on n k v number le h (b, name, inr e, at) = (b, name, inr (e.0, sort_on n k v le h ∙ e.1), at)
 
-pub row_on : {p : Program} (n k : Heap) (v : Value) (f : Foreign) → Grown p n k → IsWithin n v → HasItsRow n v f → HasItsRow k v f
+pub row_on : {W : Type 0} (n k : Heap) (v : Value) (f : Foreign) → Grows W n k → IsWithin n v → HasItsRow n v f → HasItsRow k v f
 row_on n k v (builtin number) le h w = method_on n k v number le h w
 row_on n k v (stub_fun home name) le h w = tt
 row_on n k v (stub_class home name) le h w = tt
 row_on n k v (stub_method home own name) le h w = tt
 
-dict_on : {p : Program} (n k : Heap) (o : Option Value) → Grown p n k → OptionWithin n o → IsDict n o → IsDict k o
+dict_on : {W : Type 0} (n k : Heap) (o : Option Value) → Grows W n k → OptionWithin n o → IsDict n o → IsDict k o
 dict_on n k None le h w = absurd w
 dict_on n k (Some v) le h w = kind_on n k v le h ∙ w
 
-pub object_on : {p : Program} (n k : Heap) (o : Object) → Grown p n k → ObjectWithin n o → ObjectWithin k o
+pub object_on : {W : Type 0} (n k : Heap) (o : Object) → Grows W n k → ObjectWithin n o → ObjectWithin k o
 object_on n k (object.list site vs) le h = are_on n k vs le h
 object_on n k (object.tuple site layout vs) le h = are_on n k vs le h
 object_on n k (object.dict site qs) le h = pairs_on n k qs le h
@@ -107,7 +106,7 @@ object_on n k (object.bound_foreign v f) le h = (within_on n k v le h.0, row_on 
 object_on n k (object.imported home) le h = tt
 object_on n k (object.outside t) le h = tt
 
-pub objects_on : {p : Program} (n k : Heap) (os : List Object) → Grown p n k → ObjectsWithin n os → ObjectsWithin k os
+pub objects_on : {W : Type 0} (n k : Heap) (os : List Object) → Grows W n k → ObjectsWithin n os → ObjectsWithin k os
 objects_on n k [] le h = tt
 objects_on n k (o ∷ os) le h = (object_on n k o le h.0, objects_on n k os le h.1)
 

@@ -1,5 +1,5 @@
-use Rattle.py_meaning.proofs.KeptRuns
+use Rattle.py_meaning.proofs.KeptModules
 use Rattle.py_meaning.proofs.laws.references_point_in.Goals as goal
 
 pub returns : goal.returns
-returns c = KeptRuns.references_point_in
+returns c = KeptModules.references_point_in

@@ -1,0 +1,183 @@
+-- The statements of a module, of which those of its classes make their objects, and what holds of the last heap of a run.
+use Rattle.std.proofs.Common.{◌≡◌, ◌⊎◌, inl, inr, ℕ, zero, suc, ◌<◌, List, [], ◌∷◌, ◌++◌, length, Option, Some, None, slice_get, refl, sym, ap, ◌∙◌, subst, arith}
+use Rattle.std.proofs.lemmas.List.Elements.{All-nil}
+use Rattle.type_terms.specs.Stubs.{Stub}
+use Rattle.py_tree.specs.Tree as tree
+use Rattle.py_tree.specs.Tree.{Stmts, no_stmts, stmt, statement, StmtKind, FunDef, fun_def, ClassDef, class_def, Members, no_members, member, Module}
+use Rattle.scope_rules.specs.WellFormed.{Surroundings, outside, AreFormedHere, AreFormedMembers, IsWellFormed}
+use Rattle.py_meaning.specs.Values.{Value, ref}
+use Rattle.py_meaning.specs.Objects as object
+use Rattle.py_meaning.specs.Objects.{Object, object_at}
+use Rattle.py_meaning.specs.Programs.{Program, FunRow, program, fun_rows, method_rows, class_rows, fun_at, printed}
+use Rattle.py_meaning.specs.Names.{store}
+use Rattle.py_meaning.specs.Statements.{define_function, and_on, then_next, fill_class, exec, exec_kind, exec_all}
+use Rattle.py_meaning.specs.Actions.{Memory, with_new, Flow, goes_on, breaks, continues, returns, OutsideCall, Action, gives, bind, then_do}
+use Rattle.py_meaning.specs.Runs.{Answer, gave, raised, stopped, carry_out, turns_within, no_memory, start, tell_names, module_action, make_calls, run_of, answer, run}
+use Rattle.py_meaning.specs.Holds.{Post, Holds, HoldsAfter}
+use Rattle.py_meaning.specs.References as points
+use Rattle.py_meaning.specs.References.{ReferencesPointIn}
+use Rattle.py_meaning.specs.Receivers.{FitsReceiver, ReceiversFit}
+use Rattle.py_meaning.specs.ClassLaws.{class_number, class_id, LeavesNumber, NumbersApart, OneObjectAClass, ClassesHaveOneObject}
+use Rattle.py_meaning.proofs.Holding.{holds_bind, holds_map, runs_hold}
+use Rattle.py_meaning.proofs.Growing.{Heap, ClassesApart, IsBlock, Grows, grown_self, grown_push, grown_class}
+use Rattle.py_meaning.proofs.Pointing.{IsWithin, ObjectWithin, ObjectsWithin, within_on}
+use Rattle.py_meaning.proofs.Kept.{pointing, pointing_lasts, Ended, Good, Safe, Free, FlowWithin, safe_then, object_within, push_at, push_one, good_push, here_within}
+use Rattle.py_meaning.proofs.KeptNatives.{store_safe}
+use Rattle.py_meaning.proofs.KeptStatements.{and_on_safe, define_function_safe, fill_class_safe, BlockKind, exec_kind_safe}
+use Rattle.py_meaning.proofs.KeptRuns.{turn_holds, tell_names_safe, make_calls_safe}
+
+-- ---- the classes that are still to come
+
+abbrev NoneYet : Heap → Stmts → Type 0
+NoneYet n no_stmts = Unit {0}
+NoneYet n (stmt (statement (tree.class k) line) rest) = ((i : ℕ) → class_number (object_at n i) ≡ Some (class_id k) → ⊥) × NoneYet n rest
+NoneYet n (stmt _ rest) = NoneYet n rest
+
+none_on : (p : Program) (n k : Heap) (ss : Stmts) → ClassesApart p → Grows (ClassesApart p) n k → NoneYet n ss → NoneYet k ss
+none_on p n k no_stmts c g h = tt
+none_on p n k (stmt (statement (tree.class d) line) rest) c g h = (λ i e. h.0 i (grown_class i (class_id d) g c e), none_on p n k rest c g h.1)
+none_on p n k (stmt (statement (tree.def f) line) rest) c g h = none_on p n k rest c g h
+none_on p n k (stmt (statement _ line) rest) c g h = none_on p n k rest c g h
+
+other_number : (c d : ℕ) (o : Option ℕ) → (c ≡ d → ⊥) → o ≡ Some c → o ≡ Some d → ⊥
+other_number c d o ne e f = ne (let same : Some c ≡ Some d = sym e ∙ f in grind (arith, same))
+
+none_pushed : (n : Heap) (c : ℕ) (ss : Stmts) → LeavesNumber c ss → NoneYet n ss → NoneYet (n ++ object.class c [] ∷ []) ss
+none_pushed n c no_stmts l h = tt
+none_pushed n c (stmt (statement (tree.class d) line) rest) l h = (λ i e. apart (push_at n (object.class c []) i (class_id d) e) (h.0 i), none_pushed n c rest l.1 h.1)
+  where
+    apart : {A B : Type 0} → A ⊎ (B × (Some c ≡ Some (class_id d))) → (A → ⊥) → ⊥
+    apart (inl a) f = f a
+    apart (inr b) f = other_number c (class_id d) (Some c) l.0 refl b.1
+none_pushed n c (stmt (statement (tree.def f) line) rest) l h = none_pushed n c rest l h
+none_pushed n c (stmt (statement _ line) rest) l h = none_pushed n c rest l h
+
+-- ---- statements of the module
+
+-- at an end, in a good memory
+abbrev pub Whole : {A : Type 0} → (p : Program) → Post (pointing p) A
+Whole p g m x = Good p m
+
+-- the statements that are left, where the classes stand apart
+abbrev pub Left : Program → Heap → Stmts → Type 0
+Left p n ss = ClassesApart p → ((names : ℕ) × AreFormedHere names ss × NumbersApart ss × NoneYet n ss)
+
+plain_holds : (p : Program) (kind : StmtKind) (line : ℕ) (m : Memory) → Good p m → BlockKind p kind → Holds (pointing p) (Ended p m.heap FlowWithin) (Ended p m.heap IsWithin) tt m (exec_kind p kind line)
+plain_holds p kind line m good b = (exec_kind_safe p kind line m.heap b).keeps m good (grown_self m.heap) m.heap (grown_self m.heap)
+
+-- a class's object is made, and filled
+class_holds : (p : Program) (id name : ℕ) (base : Option ℕ) (ms : Members) (own line : ℕ) (m : Memory) → Good p m → (ClassesApart p → (i : ℕ) → class_number (object_at m.heap i) ≡ Some id → ⊥) →
+    Holds (pointing p) (Ended p (m.heap ++ object.class id [] ∷ []) FlowWithin) (Ended p (m.heap ++ object.class id [] ∷ []) IsWithin) tt m (exec_kind p (tree.class (class_def id name base ms own)) line)
+class_holds p id name base ms own line m good apart =
+    let o : Object = object.class id [] in
+    let n : Heap = m.heap ++ o ∷ [] in
+    let c : Value = ref (length m.heap) in
+    let made : Good p (with_new o m) = good_push {p = p} {W = ⊥} m o good (grown_push m.heap o (λ e. absurd e)) tt (λ w. push_one m.heap o (good.classes w) (λ d i e f. apart w i (f ∙ sym e))) in
+    let filled : Safe p n FlowWithin (and_on (then_do (fill_class p ms c) (store p name c))) =
+        and_on_safe n Free (then_do (fill_class p ms c) (store p name c)) (safe_then n Free Free (fill_class p ms c) (store p name c) (fill_class_safe p ms n c) (λ j le. store_safe p j name c (within_on n j c le (here_within m.heap o)))) in
+    (tt, tt, filled.keeps (with_new o m) made (grown_self n) n (grown_self n))
+
+next_holds : (p : Program) (flow : Flow) (a : Action Flow) (m : Memory) → Good p m → Holds (pointing p) (Whole p) (Whole p) tt m a → Holds (pointing p) (Whole p) (Whole p) tt m (then_next flow a)
+next_holds p goes_on a m good h = h
+next_holds p breaks a m good h = good
+next_holds p continues a m good h = good
+next_holds p (returns v) a m good h = good
+
+-- a statement, and those after it
+step_holds : (p : Program) (n : Heap) (s a : Action Flow) (m : Memory) → Holds (pointing p) (Ended p n FlowWithin) (Ended p n IsWithin) tt m s → ((m' : Memory) → Good p m' → Grows (ClassesApart p) n m'.heap → Holds (pointing p) (Whole p) (Whole p) tt m' a) →
+    Holds (pointing p) (Whole p) (Whole p) tt m (bind s (λ flow. then_next flow a))
+step_holds p n s a m h k =
+    holds_bind (pointing p) (Ended p n FlowWithin) (Whole p) (Whole p) s (λ flow. then_next flow a) tt m
+    (holds_map (pointing p) (Ended p n FlowWithin) (Ended p n FlowWithin) (Ended p n IsWithin) (Whole p) s tt m h (λ x g m' e. e) (λ v g m' e. e.1))
+    (λ flow g m' e. next_holds p flow a m' e.1 (k m' e.1 e.0))
+
+statements_hold : (p : Program) (ss : Stmts) (m : Memory) → Good p m → Left p m.heap ss → Holds (pointing p) (Whole p) (Whole p) tt m (exec_all p ss)
+statements_hold p no_stmts m good l = good
+statements_hold p (stmt (statement (tree.class (class_def id name base ms own)) line) ss) m good l =
+    step_holds p (m.heap ++ object.class id [] ∷ []) (exec_kind p (tree.class (class_def id name base ms own)) line) (exec_all p ss) m (class_holds p id name base ms own line m good (λ c. (l c).3.0)) (λ m' good' g.
+    statements_hold p ss m' good' (λ c. ((l c).0, (l c).1.1, (l c).2.1, none_on p (m.heap ++ object.class id [] ∷ []) m'.heap ss c g (none_pushed m.heap id ss (l c).2.0 (l c).3.1))))
+statements_hold p (stmt (statement (tree.def f) line) ss) m good l =
+    step_holds p m.heap (exec_kind p (tree.def f) line) (exec_all p ss) m ((and_on_safe m.heap Free (define_function p f) (define_function_safe p f m.heap)).keeps m good (grown_self m.heap) m.heap (grown_self m.heap)) (λ m' good' g.
+    statements_hold p ss m' good' (λ c. ((l c).0, (l c).1.1, (l c).2, none_on p m.heap m'.heap ss c g (l c).3)))
+statements_hold p (stmt (statement kind line) ss) m good l =
+    step_holds p m.heap (exec_kind p kind line) (exec_all p ss) m (plain_holds p kind line m good (λ c. (outside (l c).0, (l c).1.0))) (λ m' good' g.
+    statements_hold p ss m' good' (λ c. ((l c).0, (l c).1.1, (l c).2, none_on p m.heap m'.heap ss c g (l c).3)))
+
+-- ---- the last heap of a run
+
+nothing_good : (p : Program) → Good p no_memory
+nothing_good p = record { heap = tt; scope = record { globals = tt; frame = tt; handled = tt }; classes = λ c number i j e f. absurd (grind (arith, e)) }
+
+nothing_yet : (ss : Stmts) → NoneYet [] ss
+nothing_yet no_stmts = tt
+nothing_yet (stmt (statement (tree.class k) line) ss) = (λ i e. absurd (grind (arith, e)), nothing_yet ss)
+nothing_yet (stmt (statement (tree.def f) line) ss) = nothing_yet ss
+nothing_yet (stmt (statement kind line) ss) = nothing_yet ss
+
+run_holds : (p : Program) (calls : List OutsideCall) → Holds (pointing p) (Whole p) (Whole p) tt no_memory (then_do (module_action p) (make_calls p calls))
+run_holds p calls =
+    holds_bind (pointing p) (Whole p) (Whole p) (Whole p) (module_action p) (λ x. make_calls p calls) tt no_memory
+    (holds_bind (pointing p) (Whole p) (Whole p) (Whole p) (exec_all p p.body) (λ flow. tell_names (printed p)) tt no_memory (statements_hold p p.body no_memory (nothing_good p) (λ c. (c.body.0, c.body.1, c.numbers, nothing_yet p.body)))
+    (λ flow g m good. ends p (tell_names (printed p)) m good (tell_names_safe (printed p) m.heap)))
+    (λ x g m good. ends p (make_calls p calls) m good (make_calls_safe p calls m.heap))
+  where
+    ends : (p : Program) (a : Action (Unit {0})) (m : Memory) → Good p m → Safe p m.heap Free a → Holds (pointing p) (Whole p) (Whole p) tt m a
+    ends p a m good safe = holds_map (pointing p) (Ended p m.heap Free) (Whole p) (Ended p m.heap IsWithin) (Whole p) a tt m (safe.keeps m good (grown_self m.heap) m.heap (grown_self m.heap)) (λ x g m' e. e.1) (λ v g m' e. e.1)
+
+-- what is kept of the last heap
+record Kept (p : Program) (heap : Heap) : Type 0 where
+  objects : ObjectsWithin heap heap
+  classes : ClassesApart p → OneObjectAClass heap
+
+kept_after : (p : Program) (r : Answer (Unit {0})) → HoldsAfter (pointing p) (Whole p) (Whole p) r → Kept p (run_of r).heap
+kept_after p (gave a s) h = record { objects = h.2.heap; classes = h.2.classes }
+kept_after p (raised v s) h = record { objects = h.2.heap; classes = h.2.classes }
+kept_after p (stopped why s) h = record { objects = h.2.heap; classes = h.2.classes }
+
+last_heap : (m : Module) (stubs : List (List ℕ × Stub)) (n : ℕ) (choices : List ℕ) (calls : List OutsideCall) → Kept (program m stubs) (run m stubs n choices calls).heap
+unfolding run answer
+last_heap m stubs n choices calls =
+    let p : Program = program m stubs in
+    let a : Action (Unit {0}) = then_do (module_action p) (make_calls p calls) in
+    kept_after p (carry_out (turns_within p n) a (start n choices))
+    (runs_hold (pointing p) (pointing_lasts p) p (turn_holds p) (Whole p) (Whole p) n a tt (start n choices) (All-nil ((pointing p).Told tt no_memory)) (run_holds p calls))
+
+-- ---- references
+
+points_object : (n : Heap) (o : Object) → ObjectWithin n o → points.ObjectWithin (length n) o
+points_object n (object.view site number receiver vs) h = (h.0, h.1)
+points_object n (object.bound_foreign v f) h = h.0
+points_object n (object.foreign f) h = tt
+points_object n o h = h
+
+points_objects : (n : Heap) (os : List Object) → ObjectsWithin n os → points.ObjectsWithin (length n) os
+points_objects n [] h = tt
+points_objects n (o ∷ os) h = (points_object n o h.0, points_objects n os h.1)
+
+pub references_point_in : ReferencesPointIn
+references_point_in m stubs n choices calls = let heap = (run m stubs n choices calls).heap in points_objects heap heap (last_heap m stubs n choices calls).objects
+
+-- ---- receivers
+
+fits_object : (n : Heap) (o : Object) → ObjectWithin n o → FitsReceiver n o
+fits_object n (object.view site number receiver vs) h = h.2
+fits_object n (object.bound_foreign v f) h = h.1
+fits_object n (object.foreign f) h = h
+fits_object n o h = tt
+
+fits_at : (n : Heap) (os : List Object) (place : ℕ) → ObjectsWithin n os → FitsReceiver n (object_at os place)
+fits_at n [] place h = tt
+fits_at n (o ∷ os) zero h = fits_object n o h.0
+fits_at n (o ∷ os) (suc place) h = fits_at n os place h.1
+
+pub receivers_fit : ReceiversFit
+receivers_fit m stubs n choices calls place = let heap = (run m stubs n choices calls).heap in fits_at heap heap place (last_heap m stubs n choices calls).objects
+
+-- ---- classes
+
+rows_are_blocks : (names : ℕ) (ss : Stmts) → AreFormedHere names ss → (f : ℕ) (row : FunRow) → slice_get (fun_rows ss) f ≡ Some row → IsBlock row.body
+rows_are_blocks names ss h f row e = ?
+
+pub classes_have_one_object : ClassesHaveOneObject
+classes_have_one_object m stubs n choices calls formed apart =
+    (last_heap m stubs n choices calls).classes (record { body = (length m.names, formed); numbers = apart; rows = rows_are_blocks (length m.names) m.body formed })
