@@ -1,14 +1,14 @@
 -- The statements of a module, of which those of its classes make their objects, and what holds of the last heap of a run.
-use Rattle.std.proofs.Common.{◌≡◌, ◌⊎◌, inl, inr, ℕ, zero, suc, ◌<◌, List, [], ◌∷◌, ◌++◌, length, Option, Some, None, slice_get, refl, sym, ap, ◌∙◌, subst, arith}
+use Rattle.std.proofs.Common.{◌≡◌, ◌⊎◌, inl, inr, ℕ, zero, suc, ◌<◌, Bool, true, false, List, [], ◌∷◌, ◌++◌, length, Option, Some, None, slice_get, refl, sym, ap, ◌∙◌, subst, arith}
 use Rattle.std.proofs.lemmas.List.Elements.{All-nil}
 use Rattle.type_terms.specs.Stubs.{Stub}
 use Rattle.py_tree.specs.Tree as tree
 use Rattle.py_tree.specs.Tree.{Stmts, no_stmts, stmt, statement, StmtKind, FunDef, fun_def, ClassDef, class_def, Members, no_members, member, Module}
-use Rattle.scope_rules.specs.WellFormed.{Surroundings, outside, AreFormedHere, AreFormedMembers, IsWellFormed}
+use Rattle.scope_rules.specs.WellFormed.{Surroundings, outside, AreFormedHere, IsFormedFun, AreFormedMembers, IsWellFormed}
 use Rattle.py_meaning.specs.Values.{Value, ref}
 use Rattle.py_meaning.specs.Objects as object
 use Rattle.py_meaning.specs.Objects.{Object, object_at}
-use Rattle.py_meaning.specs.Programs.{Program, FunRow, program, fun_rows, method_rows, class_rows, fun_at, printed}
+use Rattle.py_meaning.specs.Programs.{Program, FunRow, program, fun_row, fun_rows, method_rows, class_rows, fun_at, printed}
 use Rattle.py_meaning.specs.Names.{store}
 use Rattle.py_meaning.specs.Statements.{define_function, and_on, then_next, fill_class, exec, exec_kind, exec_all}
 use Rattle.py_meaning.specs.Actions.{Memory, with_new, Flow, goes_on, breaks, continues, returns, OutsideCall, Action, gives, bind, then_do}
@@ -175,9 +175,39 @@ receivers_fit m stubs n choices calls place = let heap = (run m stubs n choices 
 
 -- ---- classes
 
-rows_are_blocks : (names : ℕ) (ss : Stmts) → AreFormedHere names ss → (f : ℕ) (row : FunRow) → slice_get (fun_rows ss) f ≡ Some row → IsBlock row.body
-rows_are_blocks names ss h f row e = ?
+abbrev AreBlocks : List FunRow → Type 0
+AreBlocks [] = Unit {0}
+AreBlocks (row ∷ rows) = IsBlock row.body × AreBlocks rows
+
+blocks_joined : (rows others : List FunRow) → AreBlocks rows → AreBlocks others → AreBlocks (rows ++ others)
+blocks_joined [] others h k = k
+blocks_joined (row ∷ rows) others h k = (h.0, blocks_joined rows others h.1 k)
+
+block_at : (rows : List FunRow) (f : ℕ) (row : FunRow) → AreBlocks rows → slice_get rows f ≡ Some row → IsBlock row.body
+block_at [] f row h e = absurd (grind (arith, e))
+block_at (x ∷ rows) zero row h e = let same : x ≡ row = grind (arith, e) in subst (λ r. IsBlock r.body) same h.0
+block_at (x ∷ rows) (suc f) row h e = block_at rows f row h.1 e
+
+block_of : (names : ℕ) (in_class : Bool) (f : FunDef) (class : Option ℕ) → IsFormedFun names in_class f → IsBlock (fun_row class f).body
+block_of names in_class (fun_def id own params body line) class h = (record { names = names; in_loop = false; in_function = true; in_method = in_class }, h.3)
+
+method_blocks : (names class : ℕ) (ms : Members) → AreFormedMembers names ms → AreBlocks (method_rows class ms)
+method_blocks names class no_members h = tt
+method_blocks names class (member (tree.method f) rest) h = (block_of names true f (Some class) h.0, method_blocks names class rest h.1)
+method_blocks names class (member tree.pass_member rest) h = method_blocks names class rest h.1
+method_blocks names class (member _ rest) h = method_blocks names class rest h.1
+
+function_blocks : (names : ℕ) (ss : Stmts) → AreFormedHere names ss → AreBlocks (fun_rows ss)
+function_blocks names no_stmts h = tt
+function_blocks names (stmt (statement (tree.def f) line) rest) h = (block_of names false f None h.0, function_blocks names rest h.1)
+function_blocks names (stmt (statement (tree.class (class_def id own base ms at)) line) rest) h =
+    blocks_joined (method_rows id ms) (fun_rows rest) (method_blocks names id ms h.0.2) (function_blocks names rest h.1)
+function_blocks names (stmt (statement tree.pass line) rest) h = function_blocks names rest h.1
+function_blocks names (stmt (statement kind line) rest) h = function_blocks names rest h.1
+
+pub well_formed_apart : (m : Module) (stubs : List (List ℕ × Stub)) → IsWellFormed m → NumbersApart m.body → ClassesApart (program m stubs)
+well_formed_apart m stubs formed apart =
+    record { body = (length m.names, formed); numbers = apart; rows = λ f row e. block_at (fun_rows m.body) f row (function_blocks (length m.names) m.body formed) e }
 
 pub classes_have_one_object : ClassesHaveOneObject
-classes_have_one_object m stubs n choices calls formed apart =
-    (last_heap m stubs n choices calls).classes (record { body = (length m.names, formed); numbers = apart; rows = rows_are_blocks (length m.names) m.body formed })
+classes_have_one_object m stubs n choices calls formed apart = (last_heap m stubs n choices calls).classes (well_formed_apart m stubs formed apart)

@@ -1,5 +1,7 @@
 //! What holds of every run.
 ghost use Rattle.py_meaning.specs.References.{ReferencesPointIn};
+ghost use Rattle.py_meaning.specs.Receivers.{ReceiversFit};
+ghost use Rattle.py_meaning.specs.ClassLaws.{ClassesHaveOneObject};
 ghost use Rattle.py_meaning.specs.UnionLaws.{UnionsHaveTheirMembers};
 ghost use Rattle.py_meaning.specs.KindLaws.{FreshIsOfAKind, OperatorsKeepTheirRows, SignsKeepTheirRows, OrdersKeepTheirRows, OtherKindsHaveNoSlice, OtherKindsTakeNoItems};
 ghost use Rattle.py_meaning.specs.Laws.{MoreTurnsChangeNothing, NestingIsEnough, ChoicesFromTheFront, WholeIsNoTruth, NothingAfterTheEnding, CallsAddEvents, StepsMayRaise, RaisesTakeAChoice};
@@ -38,6 +40,16 @@ pub fn calls_add_events()
 /// Each reference in the last heap points into it.
 pub fn references_point_in()
     ensures { ReferencesPointIn }
+{}
+
+/// A bound native is a method of a kind of its receiver, and a view of a dict's own parts has a dict.
+pub fn receivers_fit()
+    ensures { ReceiversFit }
+{}
+
+/// There is one object a class.
+pub fn classes_have_one_object()
+    ensures { ClassesHaveOneObject }
 {}
 
 /// A fresh value of a type is of a kind that the type has.
