@@ -188,6 +188,16 @@ longer {W} {n} {k} g = follows_length W n k g.objects
 pub became_at : {W : Type 0} {n k : Heap} (place : ℕ) → Grows W n k → place < length n → Became (object_at n place) (object_at k place)
 became_at {W} {n} {k} place g lt = follows_at W n k place g.objects lt
 
+loose_follows : (W : Type 0) (os qs : Heap) → Follows W os qs → Follows ⊥ os qs
+loose_follows W [] [] h = tt
+loose_follows W [] (q ∷ qs) h = (λ e. absurd e, loose_follows W [] qs h.1)
+loose_follows W (o ∷ os) [] h = absurd h
+loose_follows W (o ∷ os) (q ∷ qs) h = (h.0, loose_follows W os qs h.1)
+
+-- whatever is new
+pub loose : {W : Type 0} {n k : Heap} → Grows W n k → Grows ⊥ n k
+loose {W} {n} {k} g = record { objects = loose_follows W n k g.objects }
+
 class_before : (W : Type 0) (os qs : Heap) (i c : ℕ) → W → Follows W os qs → class_number (object_at qs i) ≡ Some c → class_number (object_at os i) ≡ Some c
 class_before W [] [] i c w h e = e
 class_before W [] (q ∷ qs) zero c w h e = sym (h.0 w) ∙ e

@@ -11,7 +11,7 @@ use Rattle.py_meaning.specs.Holds.{Account, Lasts, Post, Holds}
 use Rattle.py_meaning.specs.ClassLaws.{class_number, OneObjectAClass}
 use Rattle.py_meaning.specs.Receivers.{is_instance, is_instance_at}
 use Rattle.py_meaning.proofs.Holding.{holds_attempt}
-use Rattle.py_meaning.proofs.Growing.{Heap, ClassesApart, Block, Became, IsNew, Grows, Grown, grown_self, grown_on, grown_push, grown_set, same_class, filled_values, filled_pairs, filled_instance, filled_class}
+use Rattle.py_meaning.proofs.Growing.{Heap, ClassesApart, Block, Became, IsNew, Grows, loose, Grown, grown_self, grown_on, grown_push, grown_set, same_class, filled_values, filled_pairs, filled_instance, filled_class}
 use Rattle.py_meaning.proofs.Pointing.{IsWithin, AreWithin, EntriesWithin, PairsWithin, OptionWithin, ObjectWithin, ObjectsWithin, within_on, are_on, entries_on, pairs_on, option_on, object_on, objects_on, get_within, with_entry_within}
 
 -- ---- memory
@@ -32,10 +32,12 @@ pub record ScopeWithin (n : Heap) (c : Scope) : Type 0 where
 pub scope_on : {W : Type 0} (n k : Heap) (c : Scope) → Grows W n k → ScopeWithin n c → ScopeWithin k c
 scope_on n k c le h = record { globals = entries_on n k c.globals le h.globals; frame = frame_on n k c.frame le h.frame; handled = option_on n k c.handled le h.handled }
 
-pub record Good (p : Program) (m : Memory) : Type 0 where
+pub record Good (p : Program) (root : Heap) (m : Memory) : Type 0 where
   pub heap : ObjectsWithin m.heap m.heap
   pub scope : ScopeWithin m.heap m.scope
   pub classes : ClassesApart p → OneObjectAClass m.heap
+  -- it goes on from a heap that was there before
+  pub goes_on : Grows ⊥ root m.heap
 
 -- ---- requests, outcomes and events
 
@@ -59,48 +61,48 @@ OutcomeWithin n (threw v) = IsWithin n v
 
 -- ---- the account, of which nothing but memory is kept
 
-abbrev pub pointing : Program → Account
-pointing p = record {
+abbrev pub pointing : Program → Heap → Account
+pointing p root = record {
   Kept = Unit {0};
-  Always = λ g m. Good p m;
+  Always = λ g m. Good p root m;
   Way = λ q. Unit {0};
   Asked = λ q way g m. RequestWithin p m.heap q;
-  Answered = λ q way g m o later m'. Grown p m.heap m'.heap × Good p m' × OutcomeWithin m'.heap o;
+  Answered = λ q way g m o later m'. Grown p m.heap m'.heap × Good p root m' × OutcomeWithin m'.heap o;
   Made = λ g m o later. Unit {0};
   Told = λ g m e. Unit {0};
 }
 
-pub pointing_lasts : (p : Program) → Lasts (pointing p)
-pointing_lasts p = record { in_scope = λ g m c e t. tt; with_object = λ g m o later e made t. tt; with_filling = λ g m place new e t. tt }
+pub pointing_lasts : (p : Program) (root : Heap) → Lasts (pointing p root)
+pointing_lasts p root = record { in_scope = λ g m c e t. tt; with_object = λ g m o later e made t. tt; with_filling = λ g m place new e t. tt }
 
 -- at an end, in a heap that goes on from another
-abbrev pub Ended : {A : Type 0} → (p : Program) → Heap → (Heap → A → Type 0) → Post (pointing p) A
-Ended p n P g m x = Grown p n m.heap × Good p m × P m.heap x
+abbrev pub Ended : {A : Type 0} → (p : Program) → (root : Heap) → Heap → (Heap → A → Type 0) → Post (pointing p root) A
+Ended p root n P g m x = Grown p n m.heap × Good p root m × P m.heap x
 
 -- from a good memory on
-abbrev pub SafeIn : {A : Type 0} → (p : Program) → Memory → (Heap → A → Type 0) → Action A → Type 0
-SafeIn p m P a = (base : Heap) → Grown p base m.heap → Holds (pointing p) (Ended p base P) (Ended p base IsWithin) tt m a
+abbrev pub SafeIn : {A : Type 0} → (p : Program) → (root : Heap) → Memory → (Heap → A → Type 0) → Action A → Type 0
+SafeIn p root m P a = (base : Heap) → Grown p base m.heap → Holds (pointing p root) (Ended p root base P) (Ended p root base IsWithin) tt m a
 
 -- from each good memory on whose heap goes on from another
 pub record Safe {A : Type 0} (p : Program) (n : Heap) (P : Heap → A → Type 0) (a : Action A) : Type 0 where
-  pub keeps : (m : Memory) → Good p m → Grown p n m.heap → SafeIn p m P a
+  pub keeps : (root : Heap) (m : Memory) → Good p root m → Grown p n m.heap → SafeIn p root m P a
 
 -- ---- one after the other
 
 pub safe_attempt : {p : Program} {A B : Type 0} (n : Heap) (P : Heap → A → Type 0) (Q : Heap → B → Type 0) (a : Action A) (f : A → Action B) (g : Value → Action B) → Safe p n P a →
     ((x : A) (k : Heap) → Grown p n k → P k x → Safe p k Q (f x)) → ((v : Value) (k : Heap) → Grown p n k → IsWithin k v → Safe p k Q (g v)) → Safe p n Q (attempt a f g)
 safe_attempt {p} n P Q a f g h k j = record {
-  keeps = λ m good le base low.
-      holds_attempt (pointing p) (Ended p m.heap P) (Ended p m.heap IsWithin) (Ended p base Q) (Ended p base IsWithin) a f g tt m (h.keeps m good le m.heap (grown_self m.heap))
-      (λ x one u e. (k x u.heap (grown_on le e.0) e.2).keeps u e.1 (grown_self u.heap) base (grown_on low e.0))
-      (λ v one u e. (j v u.heap (grown_on le e.0) e.2).keeps u e.1 (grown_self u.heap) base (grown_on low e.0));
+  keeps = λ root m good le base low.
+      holds_attempt (pointing p root) (Ended p root m.heap P) (Ended p root m.heap IsWithin) (Ended p root base Q) (Ended p root base IsWithin) a f g tt m (h.keeps root m good le m.heap (grown_self m.heap))
+      (λ x one u e. (k x u.heap (grown_on le e.0) e.2).keeps root u e.1 (grown_self u.heap) base (grown_on low e.0))
+      (λ v one u e. (j v u.heap (grown_on le e.0) e.2).keeps root u e.1 (grown_self u.heap) base (grown_on low e.0));
 }
 
 pub safe_give : {p : Program} {A : Type 0} (n : Heap) (P : Heap → A → Type 0) (x : A) → ((k : Heap) → Grown p n k → P k x) → Safe p n P (gives x)
-safe_give n P x h = record { keeps = λ m good le base low. (low, good, h m.heap le) }
+safe_give n P x h = record { keeps = λ root m good le base low. (low, good, h m.heap le) }
 
 pub safe_raises : {p : Program} {A : Type 0} (n : Heap) (P : Heap → A → Type 0) (v : Value) → IsWithin n v → Safe p n P (raises v)
-safe_raises n P v h = record { keeps = λ m good le base low. (low, good, within_on n m.heap v le h) }
+safe_raises n P v h = record { keeps = λ root m good le base low. (low, good, within_on n m.heap v le h) }
 
 pub safe_bind : {p : Program} {A B : Type 0} (n : Heap) (P : Heap → A → Type 0) (Q : Heap → B → Type 0) (a : Action A) (f : A → Action B) → Safe p n P a → ((x : A) (k : Heap) → Grown p n k → P k x → Safe p k Q (f x)) → Safe p n Q (bind a f)
 safe_bind n P Q a f h k = safe_attempt n P Q a f (λ v. raises v) h k (λ v k' le p. safe_raises k' Q v p)
@@ -113,20 +115,20 @@ pub safe_then : {p : Program} {A B : Type 0} (n : Heap) (P : Heap → A → Type
 safe_then n P Q a b h k = safe_bind n P Q a (λ x. b) h (λ x k' le p. k k' le)
 
 pub safe_takes : {p : Program} {A : Type 0} (n : Heap) (P : Heap → A → Type 0) (k : ℕ → Action A) → ((c : ℕ) → Safe p n P (k c)) → Safe p n P (takes k)
-safe_takes n P k h = record { keeps = λ m good le base low. (good, λ c. (h c).keeps m good le base low) }
+safe_takes n P k h = record { keeps = λ root m good le base low. (good, λ c. (h c).keeps root m good le base low) }
 
 pub safe_counts : {p : Program} {A : Type 0} (n : Heap) (P : Heap → A → Type 0) (k : ℕ → Action A) → ((c : ℕ) → Safe p n P (k c)) → Safe p n P (counts k)
-safe_counts n P k h = record { keeps = λ m good le base low. λ c. (h c).keeps m good le base low }
+safe_counts n P k h = record { keeps = λ root m good le base low. λ c. (h c).keeps root m good le base low }
 
-pub safe_looks : {p : Program} {A : Type 0} (n : Heap) (P : Heap → A → Type 0) (k : Memory → Action A) → ((m : Memory) → Good p m → Grown p n m.heap → Safe p m.heap P (k m)) → Safe p n P (looks k)
-safe_looks n P k h = record { keeps = λ m good le base low. (h m good le).keeps m good (grown_self m.heap) base low }
+pub safe_looks : {p : Program} {A : Type 0} (n : Heap) (P : Heap → A → Type 0) (k : Memory → Action A) → ((root : Heap) (m : Memory) → Good p root m → Grown p n m.heap → Safe p m.heap P (k m)) → Safe p n P (looks k)
+safe_looks n P k h = record { keeps = λ root m good le base low. (h root m good le).keeps root m good (grown_self m.heap) base low }
 
 pub safe_if : {p : Program} {A : Type 0} (n : Heap) (P : Heap → A → Type 0) (b : Bool) (f g : Action A) → Safe p n P f → Safe p n P g → Safe p n P (if b then f else g)
 safe_if n P true f g h k = h
 safe_if n P false f g h k = k
 
 pub safe_on : {p : Program} {A : Type 0} (n k : Heap) (P : Heap → A → Type 0) (a : Action A) → Grown p n k → Safe p n P a → Safe p k P a
-safe_on n k P a le h = record { keeps = λ m good le' base low. h.keeps m good (grown_on le le') base low }
+safe_on n k P a le h = record { keeps = λ root m good le' base low. h.keeps root m good (grown_on le le') base low }
 
 -- ---- the heap
 
@@ -167,11 +169,12 @@ push_one os o one apart c i j a b = meet (push_at os o i c a) (push_at os o j c 
     meet (inr x) (inl y) = absurd (apart c j x.1 y)
     meet (inr x) (inr y) = x.0 ∙ sym y.0
 
-pub good_push : {p : Program} {W : Type 0} (m : Memory) (o : Object) → Good p m → Grows W m.heap (m.heap ++ o ∷ []) → ObjectWithin m.heap o → (ClassesApart p → OneObjectAClass (m.heap ++ o ∷ [])) → Good p (with_new o m)
+pub good_push : {p : Program} {root : Heap} {W : Type 0} (m : Memory) (o : Object) → Good p root m → Grows W m.heap (m.heap ++ o ∷ []) → ObjectWithin m.heap o → (ClassesApart p → OneObjectAClass (m.heap ++ o ∷ [])) → Good p root (with_new o m)
 good_push m o good le h one = record {
   heap = objects_push (m.heap ++ o ∷ []) m.heap o (objects_on m.heap (m.heap ++ o ∷ []) m.heap le good.heap) (object_on m.heap (m.heap ++ o ∷ []) o le h);
   scope = scope_on m.heap (m.heap ++ o ∷ []) m.scope le good.scope;
   classes = one;
+  goes_on = grown_on good.goes_on (loose le);
 }
 
 pub here_within : (os : Heap) (o : Object) → IsWithin (os ++ o ∷ []) (ref (length os))
@@ -183,7 +186,7 @@ some_none c (Some d) e f = absurd (grind (arith, e))
 
 pub safe_allocate : {p : Program} (n : Heap) (o : Object) → CanMake p n o → Safe p n IsWithin (allocate o)
 safe_allocate {p} n o h = record {
-  keeps = λ m good le base low.
+  keeps = λ root m good le base low.
       let new : IsNew (ClassesApart p) o = made_new p n o h in
       let up : Grown p m.heap (m.heap ++ o ∷ []) = grown_push m.heap o new in (
         tt,
@@ -209,7 +212,7 @@ found_within n [] i h = tt
 found_within n (o ∷ os) zero h = h.0
 found_within n (o ∷ os) (suc i) h = found_within n os i h.1
 
-pub object_within : {p : Program} (m : Memory) (place : ℕ) → Good p m → ObjectWithin m.heap (object_at m.heap place)
+pub object_within : {p : Program} {root : Heap} (m : Memory) (place : ℕ) → Good p root m → ObjectWithin m.heap (object_at m.heap place)
 object_within m place good = found_within m.heap m.heap place good.heap
 
 -- what an object may have in place of its parts
@@ -241,7 +244,7 @@ set_one : (os : Heap) (place : ℕ) (q : Object) → class_number q ≡ class_nu
 set_one os place q e one c i j a b = one c i j (sym (set_at os place q i e) ∙ a) (sym (set_at os place q j e) ∙ b)
 
 -- new parts, with each name that the object has
-pub refill_in : {p : Program} (m : Memory) (place : ℕ) (new : Filling) → Good p m → FillingWithin m.heap new → Became (object_at m.heap place) (refilled (object_at m.heap place) new) → SafeIn p m Free (refill place new)
+pub refill_in : {p : Program} {root : Heap} (m : Memory) (place : ℕ) (new : Filling) → Good p root m → FillingWithin m.heap new → Became (object_at m.heap place) (refilled (object_at m.heap place) new) → SafeIn p root m Free (refill place new)
 refill_in {p} m place new good h same = λ base low.
     let o : Object = refilled (object_at m.heap place) new in
     let up : Grown p m.heap (slice_set m.heap place o) = grown_set m.heap place o same in
@@ -250,19 +253,20 @@ refill_in {p} m place new good h same = λ base low.
       record {
         heap = objects_set (slice_set m.heap place o) m.heap place o (objects_on m.heap (slice_set m.heap place o) m.heap up good.heap) (object_on m.heap (slice_set m.heap place o) o up w);
         scope = scope_on m.heap (slice_set m.heap place o) m.scope up good.scope;
+        goes_on = grown_on good.goes_on (grown_set m.heap place o same);
         classes = λ c. set_one m.heap place o (same_class (object_at m.heap place) o same.same) (good.classes c);
       },
       tt,
     )
 
 pub safe_values : {p : Program} (n : Heap) (place : ℕ) (vs : List Value) → AreWithin n vs → Safe p n Free (refill place (of_values vs))
-safe_values n place vs h = record { keeps = λ m good le. refill_in m place (of_values vs) good (are_on n m.heap vs le h) (filled_values (object_at m.heap place) vs) }
+safe_values n place vs h = record { keeps = λ root m good le. refill_in m place (of_values vs) good (are_on n m.heap vs le h) (filled_values (object_at m.heap place) vs) }
 
 pub safe_pairs : {p : Program} (n : Heap) (place : ℕ) (qs : List (Value × Value)) → PairsWithin n qs → Safe p n Free (refill place (of_pairs qs))
-safe_pairs n place qs h = record { keeps = λ m good le. refill_in m place (of_pairs qs) good (pairs_on n m.heap qs le h) (filled_pairs (object_at m.heap place) qs) }
+safe_pairs n place qs h = record { keeps = λ root m good le. refill_in m place (of_pairs qs) good (pairs_on n m.heap qs le h) (filled_pairs (object_at m.heap place) qs) }
 
 pub safe_at : {p : Program} {A : Type 0} (n : Heap) (P : Heap → A → Type 0) (place : ℕ) (f : Object → Action A) → ((o : Object) (k : Heap) → Grown p n k → ObjectWithin k o → Safe p k P (f o)) → Safe p n P (at_place place f)
-safe_at n P place f h = record { keeps = λ m good le base low. (h (object_at m.heap place) m.heap le (object_within m place good)).keeps m good (grown_self m.heap) base low }
+safe_at n P place f h = record { keeps = λ root m good le base low. (h (object_at m.heap place) m.heap le (object_within m place good)).keeps root m good (grown_self m.heap) base low }
 
 -- what is said of the value is said of its object
 abbrev pub IsAt : Heap → Value → Object → Type 0
@@ -270,26 +274,26 @@ IsAt n v o = (kind_of n v ≡ kind_of_object o) × (is_instance_at n v ≡ is_in
 
 pub safe_at_value : {p : Program} {A : Type 0} (n : Heap) (P : Heap → A → Type 0) (place : ℕ) (f : Object → Action A) →
     ((o : Object) (k : Heap) → Grown p n k → ObjectWithin k o → IsAt k (ref place) o → Safe p k P (f o)) → Safe p n P (at_place place f)
-safe_at_value n P place f h = record { keeps = λ m good le base low. (h (object_at m.heap place) m.heap le (object_within m place good) (refl, refl)).keeps m good (grown_self m.heap) base low }
+safe_at_value n P place f h = record { keeps = λ root m good le base low. (h (object_at m.heap place) m.heap le (object_within m place good) (refl, refl)).keeps root m good (grown_self m.heap) base low }
 
 -- the object is still the same
 pub safe_at_now : {p : Program} {A : Type 0} (n : Heap) (P : Heap → A → Type 0) (place : ℕ) (f : Object → Action A) →
-    ((m : Memory) → Good p m → Grown p n m.heap → (o : Object) → o ≡ object_at m.heap place → ObjectWithin m.heap o → SafeIn p m P (f o)) → Safe p n P (at_place place f)
-safe_at_now n P place f h = record { keeps = λ m good le base low. h m good le (object_at m.heap place) refl (object_within m place good) base low }
+    ((root : Heap) (m : Memory) → Good p root m → Grown p n m.heap → (o : Object) → o ≡ object_at m.heap place → ObjectWithin m.heap o → SafeIn p root m P (f o)) → Safe p n P (at_place place f)
+safe_at_now n P place f h = record { keeps = λ root m good le base low. h root m good le (object_at m.heap place) refl (object_within m place good) base low }
 
 -- one entry more of an instance or a class
-pub enter_instance : {p : Program} (m : Memory) (place c name : ℕ) (es : Entries) (v : Value) → Good p m → object.instance c es ≡ object_at m.heap place → EntriesWithin m.heap es → IsWithin m.heap v → SafeIn p m Free (refill place (of_entries (with_entry es name v)))
+pub enter_instance : {p : Program} {root : Heap} (m : Memory) (place c name : ℕ) (es : Entries) (v : Value) → Good p root m → object.instance c es ≡ object_at m.heap place → EntriesWithin m.heap es → IsWithin m.heap v → SafeIn p root m Free (refill place (of_entries (with_entry es name v)))
 enter_instance m place c name es v good e h w =
     refill_in m place (of_entries (with_entry es name v)) good (with_entry_within m.heap es name v h w) (subst (λ o. Became o (refilled o (of_entries (with_entry es name v)))) e (filled_instance c name es v))
 
-pub enter_class : {p : Program} (m : Memory) (place c name : ℕ) (es : Entries) (v : Value) → Good p m → object.class c es ≡ object_at m.heap place → EntriesWithin m.heap es → IsWithin m.heap v → SafeIn p m Free (refill place (of_entries (with_entry es name v)))
+pub enter_class : {p : Program} {root : Heap} (m : Memory) (place c name : ℕ) (es : Entries) (v : Value) → Good p root m → object.class c es ≡ object_at m.heap place → EntriesWithin m.heap es → IsWithin m.heap v → SafeIn p root m Free (refill place (of_entries (with_entry es name v)))
 enter_class m place c name es v good e h w =
     refill_in m place (of_entries (with_entry es name v)) good (with_entry_within m.heap es name v h w) (subst (λ o. Became o (refilled o (of_entries (with_entry es name v)))) e (filled_class c name es v))
 
 -- ---- the scope
 
 pub safe_changes : {p : Program} {A : Type 0} (n : Heap) (P : Heap → A → Type 0) (f : Scope → Scope) (a : Action A) → ((c : Scope) (k : Heap) → Grown p n k → ScopeWithin k c → ScopeWithin k (f c)) → Safe p n P a → Safe p n P (changes f a)
-safe_changes n P f a g h = record { keeps = λ m good le base low. h.keeps (with_scope (f m.scope) m) (record { heap = good.heap; scope = g m.scope m.heap le good.scope; classes = good.classes }) le base low }
+safe_changes n P f a g h = record { keeps = λ root m good le base low. h.keeps root (with_scope (f m.scope) m) (record { heap = good.heap; scope = g m.scope m.heap le good.scope; classes = good.classes; goes_on = good.goes_on }) le base low }
 
 pub safe_afterwards : {p : Program} {A : Type 0} (n : Heap) (P : Heap → A → Type 0) (a : Action A) (f : Scope → Scope) → ((k : Heap) (x : A) → P k x → Safe p k P (gives x)) → ((c : Scope) (k : Heap) → Grown p n k → ScopeWithin k c → ScopeWithin k (f c)) → Safe p n P a → Safe p n P (afterwards a f)
 safe_afterwards n P a f gv g h =
@@ -300,7 +304,7 @@ safe_afterwards n P a f gv g h =
 -- ---- choices, and what is raised
 
 pub safe_tells : {p : Program} {A : Type 0} (n : Heap) (P : Heap → A → Type 0) (e : Event) (a : Action A) → Safe p n P a → Safe p n P (tells e a)
-safe_tells n P e a h = record { keeps = λ m good le base low. (tt, h.keeps m good le base low) }
+safe_tells n P e a h = record { keeps = λ root m good le base low. (tt, h.keeps root m good le base low) }
 
 pub safe_pick : {p : Program} (n : Heap) (k : ℕ) → Safe p n Free (pick k)
 safe_pick n zero = safe_give n Free 0 (λ k le. tt)

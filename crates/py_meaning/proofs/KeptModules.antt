@@ -55,58 +55,58 @@ none_pushed n c (stmt (statement _ line) rest) l h = none_pushed n c rest l h
 -- ---- statements of the module
 
 -- at an end, in a good memory
-abbrev pub Whole : {A : Type 0} → (p : Program) → Post (pointing p) A
-Whole p g m x = Good p m
+abbrev pub Whole : {A : Type 0} → (p : Program) → (root : Heap) → Post (pointing p root) A
+Whole p root g m x = Good p root m
 
 -- the statements that are left, where the classes stand apart
 abbrev pub Left : Program → Heap → Stmts → Type 0
 Left p n ss = ClassesApart p → ((names : ℕ) × AreFormedHere names ss × NumbersApart ss × NoneYet n ss)
 
-plain_holds : (p : Program) (kind : StmtKind) (line : ℕ) (m : Memory) → Good p m → BlockKind p kind → Holds (pointing p) (Ended p m.heap FlowWithin) (Ended p m.heap IsWithin) tt m (exec_kind p kind line)
-plain_holds p kind line m good b = (exec_kind_safe p kind line m.heap b).keeps m good (grown_self m.heap) m.heap (grown_self m.heap)
+plain_holds : (p : Program) (root : Heap) (kind : StmtKind) (line : ℕ) (m : Memory) → Good p root m → BlockKind p kind → Holds (pointing p root) (Ended p root m.heap FlowWithin) (Ended p root m.heap IsWithin) tt m (exec_kind p kind line)
+plain_holds p root kind line m good b = (exec_kind_safe p kind line m.heap b).keeps root m good (grown_self m.heap) m.heap (grown_self m.heap)
 
 -- a class's object is made, and filled
-class_holds : (p : Program) (id name : ℕ) (base : Option ℕ) (ms : Members) (own line : ℕ) (m : Memory) → Good p m → (ClassesApart p → (i : ℕ) → class_number (object_at m.heap i) ≡ Some id → ⊥) →
-    Holds (pointing p) (Ended p (m.heap ++ object.class id [] ∷ []) FlowWithin) (Ended p (m.heap ++ object.class id [] ∷ []) IsWithin) tt m (exec_kind p (tree.class (class_def id name base ms own)) line)
-class_holds p id name base ms own line m good apart =
+class_holds : (p : Program) (root : Heap) (id name : ℕ) (base : Option ℕ) (ms : Members) (own line : ℕ) (m : Memory) → Good p root m → (ClassesApart p → (i : ℕ) → class_number (object_at m.heap i) ≡ Some id → ⊥) →
+    Holds (pointing p root) (Ended p root (m.heap ++ object.class id [] ∷ []) FlowWithin) (Ended p root (m.heap ++ object.class id [] ∷ []) IsWithin) tt m (exec_kind p (tree.class (class_def id name base ms own)) line)
+class_holds p root id name base ms own line m good apart =
     let o : Object = object.class id [] in
     let n : Heap = m.heap ++ o ∷ [] in
     let c : Value = ref (length m.heap) in
-    let made : Good p (with_new o m) = good_push {p = p} {W = ⊥} m o good (grown_push m.heap o (λ e. absurd e)) tt (λ w. push_one m.heap o (good.classes w) (λ d i e f. apart w i (f ∙ sym e))) in
+    let made : Good p root (with_new o m) = good_push {p = p} {W = ⊥} m o good (grown_push m.heap o (λ e. absurd e)) tt (λ w. push_one m.heap o (good.classes w) (λ d i e f. apart w i (f ∙ sym e))) in
     let filled : Safe p n FlowWithin (and_on (then_do (fill_class p ms c) (store p name c))) =
         and_on_safe n Free (then_do (fill_class p ms c) (store p name c)) (safe_then n Free Free (fill_class p ms c) (store p name c) (fill_class_safe p ms n c) (λ j le. store_safe p j name c (within_on n j c le (here_within m.heap o)))) in
-    (tt, tt, filled.keeps (with_new o m) made (grown_self n) n (grown_self n))
+    (tt, tt, filled.keeps root (with_new o m) made (grown_self n) n (grown_self n))
 
-next_holds : (p : Program) (flow : Flow) (a : Action Flow) (m : Memory) → Good p m → Holds (pointing p) (Whole p) (Whole p) tt m a → Holds (pointing p) (Whole p) (Whole p) tt m (then_next flow a)
-next_holds p goes_on a m good h = h
-next_holds p breaks a m good h = good
-next_holds p continues a m good h = good
-next_holds p (returns v) a m good h = good
+next_holds : (p : Program) (root : Heap) (flow : Flow) (a : Action Flow) (m : Memory) → Good p root m → Holds (pointing p root) (Whole p root) (Whole p root) tt m a → Holds (pointing p root) (Whole p root) (Whole p root) tt m (then_next flow a)
+next_holds p root goes_on a m good h = h
+next_holds p root breaks a m good h = good
+next_holds p root continues a m good h = good
+next_holds p root (returns v) a m good h = good
 
 -- a statement, and those after it
-step_holds : (p : Program) (n : Heap) (s a : Action Flow) (m : Memory) → Holds (pointing p) (Ended p n FlowWithin) (Ended p n IsWithin) tt m s → ((m' : Memory) → Good p m' → Grows (ClassesApart p) n m'.heap → Holds (pointing p) (Whole p) (Whole p) tt m' a) →
-    Holds (pointing p) (Whole p) (Whole p) tt m (bind s (λ flow. then_next flow a))
-step_holds p n s a m h k =
-    holds_bind (pointing p) (Ended p n FlowWithin) (Whole p) (Whole p) s (λ flow. then_next flow a) tt m
-    (holds_map (pointing p) (Ended p n FlowWithin) (Ended p n FlowWithin) (Ended p n IsWithin) (Whole p) s tt m h (λ x g m' e. e) (λ v g m' e. e.1))
-    (λ flow g m' e. next_holds p flow a m' e.1 (k m' e.1 e.0))
+step_holds : (p : Program) (root : Heap) (n : Heap) (s a : Action Flow) (m : Memory) → Holds (pointing p root) (Ended p root n FlowWithin) (Ended p root n IsWithin) tt m s → ((m' : Memory) → Good p root m' → Grows (ClassesApart p) n m'.heap → Holds (pointing p root) (Whole p root) (Whole p root) tt m' a) →
+    Holds (pointing p root) (Whole p root) (Whole p root) tt m (bind s (λ flow. then_next flow a))
+step_holds p root n s a m h k =
+    holds_bind (pointing p root) (Ended p root n FlowWithin) (Whole p root) (Whole p root) s (λ flow. then_next flow a) tt m
+    (holds_map (pointing p root) (Ended p root n FlowWithin) (Ended p root n FlowWithin) (Ended p root n IsWithin) (Whole p root) s tt m h (λ x g m' e. e) (λ v g m' e. e.1))
+    (λ flow g m' e. next_holds p root flow a m' e.1 (k m' e.1 e.0))
 
-statements_hold : (p : Program) (ss : Stmts) (m : Memory) → Good p m → Left p m.heap ss → Holds (pointing p) (Whole p) (Whole p) tt m (exec_all p ss)
-statements_hold p no_stmts m good l = good
-statements_hold p (stmt (statement (tree.class (class_def id name base ms own)) line) ss) m good l =
-    step_holds p (m.heap ++ object.class id [] ∷ []) (exec_kind p (tree.class (class_def id name base ms own)) line) (exec_all p ss) m (class_holds p id name base ms own line m good (λ c. (l c).3.0)) (λ m' good' g.
-    statements_hold p ss m' good' (λ c. ((l c).0, (l c).1.1, (l c).2.1, none_on p (m.heap ++ object.class id [] ∷ []) m'.heap ss c g (none_pushed m.heap id ss (l c).2.0 (l c).3.1))))
-statements_hold p (stmt (statement (tree.def f) line) ss) m good l =
-    step_holds p m.heap (exec_kind p (tree.def f) line) (exec_all p ss) m ((and_on_safe m.heap Free (define_function p f) (define_function_safe p f m.heap)).keeps m good (grown_self m.heap) m.heap (grown_self m.heap)) (λ m' good' g.
-    statements_hold p ss m' good' (λ c. ((l c).0, (l c).1.1, (l c).2, none_on p m.heap m'.heap ss c g (l c).3)))
-statements_hold p (stmt (statement kind line) ss) m good l =
-    step_holds p m.heap (exec_kind p kind line) (exec_all p ss) m (plain_holds p kind line m good (λ c. (outside (l c).0, (l c).1.0))) (λ m' good' g.
-    statements_hold p ss m' good' (λ c. ((l c).0, (l c).1.1, (l c).2, none_on p m.heap m'.heap ss c g (l c).3)))
+statements_hold : (p : Program) (root : Heap) (ss : Stmts) (m : Memory) → Good p root m → Left p m.heap ss → Holds (pointing p root) (Whole p root) (Whole p root) tt m (exec_all p ss)
+statements_hold p root no_stmts m good l = good
+statements_hold p root (stmt (statement (tree.class (class_def id name base ms own)) line) ss) m good l =
+    step_holds p root (m.heap ++ object.class id [] ∷ []) (exec_kind p (tree.class (class_def id name base ms own)) line) (exec_all p ss) m (class_holds p root id name base ms own line m good (λ c. (l c).3.0)) (λ m' good' g.
+    statements_hold p root ss m' good' (λ c. ((l c).0, (l c).1.1, (l c).2.1, none_on p (m.heap ++ object.class id [] ∷ []) m'.heap ss c g (none_pushed m.heap id ss (l c).2.0 (l c).3.1))))
+statements_hold p root (stmt (statement (tree.def f) line) ss) m good l =
+    step_holds p root m.heap (exec_kind p (tree.def f) line) (exec_all p ss) m ((and_on_safe m.heap Free (define_function p f) (define_function_safe p f m.heap)).keeps root m good (grown_self m.heap) m.heap (grown_self m.heap)) (λ m' good' g.
+    statements_hold p root ss m' good' (λ c. ((l c).0, (l c).1.1, (l c).2, none_on p m.heap m'.heap ss c g (l c).3)))
+statements_hold p root (stmt (statement kind line) ss) m good l =
+    step_holds p root m.heap (exec_kind p kind line) (exec_all p ss) m (plain_holds p root kind line m good (λ c. (outside (l c).0, (l c).1.0))) (λ m' good' g.
+    statements_hold p root ss m' good' (λ c. ((l c).0, (l c).1.1, (l c).2, none_on p m.heap m'.heap ss c g (l c).3)))
 
 -- ---- the last heap of a run
 
-nothing_good : (p : Program) → Good p no_memory
-nothing_good p = record { heap = tt; scope = record { globals = tt; frame = tt; handled = tt }; classes = λ c number i j e f. absurd (grind (arith, e)) }
+nothing_good : (p : Program) → Good p [] no_memory
+nothing_good p = record { heap = tt; scope = record { globals = tt; frame = tt; handled = tt }; classes = λ c number i j e f. absurd (grind (arith, e)); goes_on = grown_self [] }
 
 nothing_yet : (ss : Stmts) → NoneYet [] ss
 nothing_yet no_stmts = tt
@@ -114,33 +114,44 @@ nothing_yet (stmt (statement (tree.class k) line) ss) = (λ i e. absurd (grind (
 nothing_yet (stmt (statement (tree.def f) line) ss) = nothing_yet ss
 nothing_yet (stmt (statement kind line) ss) = nothing_yet ss
 
-run_holds : (p : Program) (calls : List OutsideCall) → Holds (pointing p) (Whole p) (Whole p) tt no_memory (then_do (module_action p) (make_calls p calls))
-run_holds p calls =
-    holds_bind (pointing p) (Whole p) (Whole p) (Whole p) (module_action p) (λ x. make_calls p calls) tt no_memory
-    (holds_bind (pointing p) (Whole p) (Whole p) (Whole p) (exec_all p p.body) (λ flow. tell_names (printed p)) tt no_memory (statements_hold p p.body no_memory (nothing_good p) (λ c. (c.body.0, c.body.1, c.numbers, nothing_yet p.body)))
-    (λ flow g m good. ends p (tell_names (printed p)) m good (tell_names_safe (printed p) m.heap)))
-    (λ x g m good. ends p (make_calls p calls) m good (make_calls_safe p calls m.heap))
-  where
-    ends : (p : Program) (a : Action (Unit {0})) (m : Memory) → Good p m → Safe p m.heap Free a → Holds (pointing p) (Whole p) (Whole p) tt m a
-    ends p a m good safe = holds_map (pointing p) (Ended p m.heap Free) (Whole p) (Ended p m.heap IsWithin) (Whole p) a tt m (safe.keeps m good (grown_self m.heap) m.heap (grown_self m.heap)) (λ x g m' e. e.1) (λ v g m' e. e.1)
+ends : (p : Program) (root : Heap) (a : Action (Unit {0})) (m : Memory) → Good p root m → Safe p m.heap Free a → Holds (pointing p root) (Whole p root) (Whole p root) tt m a
+ends p root a m good safe = holds_map (pointing p root) (Ended p root m.heap Free) (Whole p root) (Ended p root m.heap IsWithin) (Whole p root) a tt m (safe.keeps root m good (grown_self m.heap) m.heap (grown_self m.heap)) (λ x g m' e. e.1) (λ v g m' e. e.1)
+
+-- the module's statements from some on, its names, and the calls from outside
+abbrev from_on : Program → Stmts → List OutsideCall → Action (Unit {0})
+from_on p ss calls = then_do (then_do (exec_all p ss) (tell_names (printed p))) (make_calls p calls)
+
+rest_holds : (p : Program) (root : Heap) (ss : Stmts) (calls : List OutsideCall) (m : Memory) → Good p root m → Left p m.heap ss → Holds (pointing p root) (Whole p root) (Whole p root) tt m (from_on p ss calls)
+rest_holds p root ss calls m good l =
+    holds_bind (pointing p root) (Whole p root) (Whole p root) (Whole p root) (then_do (exec_all p ss) (tell_names (printed p))) (λ x. make_calls p calls) tt m
+    (holds_bind (pointing p root) (Whole p root) (Whole p root) (Whole p root) (exec_all p ss) (λ flow. tell_names (printed p)) tt m (statements_hold p root ss m good l)
+    (λ flow g m' good'. ends p root (tell_names (printed p)) m' good' (tell_names_safe (printed p) m'.heap)))
+    (λ x g m' good'. ends p root (make_calls p calls) m' good' (make_calls_safe p calls m'.heap))
 
 -- what is kept of the last heap
-record Kept (p : Program) (heap : Heap) : Type 0 where
+record Kept (p : Program) (root heap : Heap) : Type 0 where
   objects : ObjectsWithin heap heap
   classes : ClassesApart p → OneObjectAClass heap
+  goes_on : Grows ⊥ root heap
 
-kept_after : (p : Program) (r : Answer (Unit {0})) → HoldsAfter (pointing p) (Whole p) (Whole p) r → Kept p (run_of r).heap
-kept_after p (gave a s) h = record { objects = h.2.heap; classes = h.2.classes }
-kept_after p (raised v s) h = record { objects = h.2.heap; classes = h.2.classes }
-kept_after p (stopped why s) h = record { objects = h.2.heap; classes = h.2.classes }
+kept_of : (p : Program) (root : Heap) (m : Memory) → Good p root m → Kept p root m.heap
+kept_of p root m good = record { objects = good.heap; classes = good.classes; goes_on = good.goes_on }
 
-last_heap : (m : Module) (stubs : List (List ℕ × Stub)) (n : ℕ) (choices : List ℕ) (calls : List OutsideCall) → Kept (program m stubs) (run m stubs n choices calls).heap
+kept_after : (p : Program) (root : Heap) (r : Answer (Unit {0})) → HoldsAfter (pointing p root) (Whole p root) (Whole p root) r → Kept p root (run_of r).heap
+kept_after p root (gave a s) h = kept_of p root s.memory h.2
+kept_after p root (raised v s) h = kept_of p root s.memory h.2
+kept_after p root (stopped why s) h = kept_of p root s.memory h.2
+
+nothing_left : (p : Program) → Left p [] p.body
+nothing_left p c = (c.body.0, c.body.1, c.numbers, nothing_yet p.body)
+
+last_heap : (m : Module) (stubs : List (List ℕ × Stub)) (n : ℕ) (choices : List ℕ) (calls : List OutsideCall) → Kept (program m stubs) [] (run m stubs n choices calls).heap
 unfolding run answer
 last_heap m stubs n choices calls =
     let p : Program = program m stubs in
-    let a : Action (Unit {0}) = then_do (module_action p) (make_calls p calls) in
-    kept_after p (carry_out (turns_within p n) a (start n choices))
-    (runs_hold (pointing p) (pointing_lasts p) p (turn_holds p) (Whole p) (Whole p) n a tt (start n choices) (All-nil ((pointing p).Told tt no_memory)) (run_holds p calls))
+    let a : Action (Unit {0}) = from_on p p.body calls in
+    kept_after p [] (carry_out (turns_within p n) a (start n choices))
+    (runs_hold (pointing p []) (pointing_lasts p []) p (turn_holds p []) (Whole p []) (Whole p []) n a tt (start n choices) (All-nil ((pointing p []).Told tt no_memory)) (rest_holds p [] p.body calls no_memory (nothing_good p) (nothing_left p)))
 
 -- ---- references
 

@@ -58,7 +58,7 @@ add_two_safe place n _ h = safe_raise n Free (codes "ValueError")
 
 add_item_safe : (p : Program) (place : ℕ) (n : Heap) (v : Value) → IsWithin n v → Safe p n Free (add_item p place v)
 add_item_safe p place n v h =
-    safe_looks n Free _ (λ m good le. safe_if m.heap Free (is_outside_at m.heap v) _ _
+    safe_looks n Free _ (λ root m good le. safe_if m.heap Free (is_outside_at m.heap v) _ _
     (safe_bind m.heap IsWithin Free anything _ (safe_anything m.heap) (λ k i le' a. safe_bind i IsWithin Free anything _ (safe_anything i) (λ w j le'' b. add_pairs_safe place j ((k, w) ∷ []) (within_on i j k le'' a, b, tt))))
     (safe_if m.heap Free (is_iterable m.heap v) _ _ (safe_bind m.heap AreWithin Free (items_of p v) (add_two place) (items_safe p m.heap v (within_on n m.heap v le h)) (λ vs i le' w. add_two_safe place i vs w)) (safe_raise m.heap Free (codes "TypeError"))))
 
@@ -129,7 +129,7 @@ some_of_safe (suc fuel) n a sofar h k =
     (safe_bind n IsWithin AreWithin a (λ v. some_of fuel a (sofar ++ v ∷ [])) (h n (grown_self n)) (λ v j le w. some_of_safe fuel j a (sofar ++ v ∷ []) (λ i le'. h i (grown_on le le')) (are_append j sofar (v ∷ []) (are_on n j sofar le k) (w, tt))))
     (safe_gives_all n sofar k))
 
-own_pairs_within : {p : Program} (m : Memory) (v : Value) → Good p m → ContentPairsWithin m.heap (own_pairs m.heap v)
+own_pairs_within : {p : Program} {root : Heap} (m : Memory) (v : Value) → Good p root m → ContentPairsWithin m.heap (own_pairs m.heap v)
 own_pairs_within m (ref place) good = content_pairs_within m.heap (object_at m.heap place) (object_within m place good)
 own_pairs_within m none good = tt
 own_pairs_within m _ good = tt
@@ -144,10 +144,10 @@ any_pair_safe n = safe_bind n IsWithin PairsWithin _ _ (safe_anything n) (λ k i
 given_pairs_safe : (p : Program) (n : Heap) (o : Option Value) → Safe p n PairsWithin (given_pairs p o)
 given_pairs_safe p n None = safe_gives_pairs n [] tt
 given_pairs_safe p n (Some v) =
-    safe_looks n PairsWithin _ (λ m good le. safe_if m.heap PairsWithin (is_dict m.heap v) _ _ (read_pairs_safe p m.heap (own_pairs m.heap v) (own_pairs_within m v good)) (any_pair_safe m.heap))
+    safe_looks n PairsWithin _ (λ root m good le. safe_if m.heap PairsWithin (is_dict m.heap v) _ _ (read_pairs_safe p m.heap (own_pairs m.heap v) (own_pairs_within m v good)) (any_pair_safe m.heap))
 
 receiver_pairs_safe : (p : Program) (n : Heap) (receiver : Value) → Safe p n PairsWithin (receiver_pairs p receiver)
-receiver_pairs_safe p n receiver = safe_looks n PairsWithin _ (λ m good le. read_pairs_safe p m.heap (own_pairs m.heap receiver) (own_pairs_within m receiver good))
+receiver_pairs_safe p n receiver = safe_looks n PairsWithin _ (λ root m good le. read_pairs_safe p m.heap (own_pairs m.heap receiver) (own_pairs_within m receiver good))
 
 keys_safe : {p : Program} (n : Heap) (a : Action (List (Value × Value))) → Safe p n PairsWithin a → Safe p n AreWithin (keys_in a)
 keys_safe n a h = safe_bind n PairsWithin AreWithin a _ h (λ qs k le w. safe_gives_all k _ (firsts_within k qs w))
@@ -180,7 +180,7 @@ module _ (p : Program) (several : Basic → Action (List Value)) (makes : Makes 
   part_values_safe n (part.Values i) h = values_safe n _ (given_pairs_safe p n (slice_get (values as') i))
   part_values_safe n part.WordNames h = safe_gives_all n _ (firsts_within n (word_pairs as') (words_within n as' h))
   part_values_safe n part.WordValues h = safe_gives_all n _ (seconds_within n (word_pairs as') (words_within n as' h))
-  part_values_safe n part.OwnElements h = safe_looks n AreWithin _ (λ m good le. read_all_safe p m.heap (contents_at m.heap receiver) (contents_at_within m receiver good))
+  part_values_safe n part.OwnElements h = safe_looks n AreWithin _ (λ root m good le. read_all_safe p m.heap (contents_at m.heap receiver) (contents_at_within m receiver good))
   part_values_safe n part.OwnKeys h = keys_safe n _ (receiver_pairs_safe p n receiver)
   part_values_safe n part.OwnValues h = values_safe n _ (receiver_pairs_safe p n receiver)
 
@@ -229,7 +229,7 @@ least_safe p n (v ∷ w ∷ ws) h = one_safe n (v ∷ w ∷ ws) h
 
 tells_safe : (p : Program) (n : Heap) (v k : Value) → Safe p n IsWithin (tells_class p v k)
 tells_safe p n v k =
-    safe_looks n IsWithin (λ m. bind (decided (instance_test p m.heap v (class_at m.heap k))) (λ b. gives (truth b))) (λ m good le.
+    safe_looks n IsWithin (λ m. bind (decided (instance_test p m.heap v (class_at m.heap k))) (λ b. gives (truth b))) (λ root m good le.
     safe_bind m.heap Free IsWithin (decided (instance_test p m.heap v (class_at m.heap k))) (λ b. gives (truth b)) (decided_safe m.heap (instance_test p m.heap v (class_at m.heap k))) (λ b j le' w. safe_gives j (truth b) tt))
 
 view_within : {p : Program} (n : Heap) (site number : ℕ) (receiver : Option Value) (vs : List Value) → OptionWithin n receiver → AreWithin n vs → ReceiverFits n receiver number → Safe p n IsWithin (allocate (object.view site number receiver vs))
@@ -476,7 +476,7 @@ in_frame_safe p n c name (Some f) good h =
 pub load_safe : (p : Program) (n : Heap) (name : ℕ) → Safe p n IsWithin (load p name)
 load_safe p n name =
     safe_bind n Free IsWithin may_raise (λ x. looks (λ m. value_in_frame p m.scope name m.scope.frame)) (safe_may n) (λ x k le w.
-    safe_looks k IsWithin (λ m. value_in_frame p m.scope name m.scope.frame) (λ m good le'. in_frame_safe p m.heap m.scope name m.scope.frame good.scope good.scope.frame))
+    safe_looks k IsWithin (λ m. value_in_frame p m.scope name m.scope.frame) (λ root m good le'. in_frame_safe p m.heap m.scope name m.scope.frame good.scope good.scope.frame))
 
 -- a change of names, where the entries that it gives are within the heap
 pub changed_within : (p : Program) (n : Heap) (name : ℕ) (f : Entries → Entries) (c : Scope) → ScopeWithin n c → ((es : Entries) → EntriesWithin n es → EntriesWithin n (f es)) → (o : Option Frame) → FrameWithin n o → ScopeWithin n (changed_in_frame p name f o c)

@@ -85,12 +85,12 @@ value_in_safe : (p : Program) (n : Heap) (o : Object) → ObjectWithin n o → S
 value_in_safe p n o h =
     safe_bind n OnePairWithin IsWithin _ _ (safe_bind n Free OnePairWithin (pick (length (pairs o))) _ (safe_pick n _) (λ i k le w. pair_gives k _ (one_pair_within k (pairs o) i (content_pairs_later n k o le h)))) (λ q k le w. value_of_pair p k q w)
 
-dict_safe : (p : Program) (m : Memory) (v : Value) (line : ℕ) → Good p m → Safe p m.heap IsWithin (value_at p m.heap v line)
+dict_safe : (p : Program) {root : Heap} (m : Memory) (v : Value) (line : ℕ) → Good p root m → Safe p m.heap IsWithin (value_at p m.heap v line)
 dict_safe p m (ref place) line good = value_in_safe p m.heap (object_at m.heap place) (object_within m place good)
 dict_safe p m none line good = safe_fails m.heap IsWithin line _
 dict_safe p m _ line good = safe_fails m.heap IsWithin line _
 
-read_part_safe : (p : Program) (m : Memory) (v : Value) (line : ℕ) (o : Option Part) → Good p m → Safe p m.heap IsWithin (read_part p m.heap v line o)
+read_part_safe : (p : Program) {root : Heap} (m : Memory) (v : Value) (line : ℕ) (o : Option Part) → Good p root m → Safe p m.heap IsWithin (read_part p m.heap v line o)
 read_part_safe p m v line (Some (part.Kind k)) good = kind_safe m.heap k
 read_part_safe p m v line (Some part.OwnElements) good = part_safe p m.heap _ (contents_at_within m v good)
 read_part_safe p m v line (Some part.OwnValues) good = dict_safe p m v line good
@@ -99,7 +99,7 @@ read_part_safe p m v line _ good = safe_fails m.heap IsWithin line _
 
 pub read_item_safe : (p : Program) (line : ℕ) (n : Heap) (v i : Value) → Safe p n IsWithin (read_item p line v i)
 read_item_safe p line n v i =
-    safe_looks n IsWithin _ (λ m good le. safe_if m.heap IsWithin (object.is_unfollowed_at m.heap v) _ _ (safe_anything m.heap)
+    safe_looks n IsWithin _ (λ root m good le. safe_if m.heap IsWithin (object.is_unfollowed_at m.heap v) _ _ (safe_anything m.heap)
     (safe_if m.heap IsWithin (subscript.fits_index m.heap v i) _ _ (read_part_safe p m v line (part_of_kind (object.kind_of m.heap v)) good) (safe_fails m.heap IsWithin line unsupported_operands)))
 
 -- ---- subscripts: what is stored
@@ -253,12 +253,12 @@ instance_attribute_safe : (p : Program) (line : ℕ) (n : Heap) (receiver : Valu
 instance_attribute_safe p line n receiver c es name a h t =
     safe_found n IsWithin (entry es name) gives (looks (λ m. elim (look_up m.heap (chain p c) name) [ Some v ↦ bound_to receiver v | None ↦ otherwise_of_instance p line receiver c name (exception_base p c) ]))
     (entry_within n es name h) (λ v w. safe_gives n v w)
-    (safe_looks n IsWithin _ (λ m good le. safe_found m.heap IsWithin (look_up m.heap (chain p c) name) (bound_to receiver) (otherwise_of_instance p line receiver c name (exception_base p c)) (look_up_within m.heap m.heap (chain p c) name good.heap)
+    (safe_looks n IsWithin _ (λ root m good le. safe_found m.heap IsWithin (look_up m.heap (chain p c) name) (bound_to receiver) (otherwise_of_instance p line receiver c name (exception_base p c)) (look_up_within m.heap m.heap (chain p c) name good.heap)
     (λ v w. bound_safe m.heap receiver v (within_on n m.heap receiver le a) w) (otherwise_safe p line m.heap receiver c name _ (within_on n m.heap receiver le a) (sort_on n m.heap receiver le a ∙ t))))
 
 class_attribute_safe : (p : Program) (line : ℕ) (n : Heap) (c name : ℕ) → Safe p n IsWithin (class_attribute p line c name)
 class_attribute_safe p line n c name =
-    safe_looks n IsWithin _ (λ m good le. safe_found m.heap IsWithin (look_up m.heap (chain p c) name) gives _ (look_up_within m.heap m.heap (chain p c) name good.heap) (λ v w. safe_gives m.heap v w) (init_or_lacks p line m.heap (on_class c) name))
+    safe_looks n IsWithin _ (λ root m good le. safe_found m.heap IsWithin (look_up m.heap (chain p c) name) gives _ (look_up_within m.heap m.heap (chain p c) name good.heap) (λ v w. safe_gives m.heap v w) (init_or_lacks p line m.heap (on_class c) name))
 
 pub item_value_safe : (p : Program) (home name : List ℕ) (n : Heap) (i : Item) → Safe p n IsWithin (item_value p home name i)
 item_value_safe p home name n (of_type t) = fresh_safe p t n
@@ -313,23 +313,23 @@ object_attribute_safe p line n v name o a h e = kind_attribute_safe p line n v (
 
 pub attribute_safe : (p : Program) (line : ℕ) (n : Heap) (v : Value) (name : ℕ) → IsWithin n v → Safe p n IsWithin (read_attribute p line v name)
 attribute_safe p line n (ref place) name a = safe_at_value n IsWithin place _ (λ o k le w e. object_attribute_safe p line k (ref place) name o (within_on n k (ref place) le a) w e)
-attribute_safe p line n none name a = safe_looks n IsWithin _ (λ m good le. kind_attribute_safe p line m.heap none (object.kind_of m.heap none) on_another name tt (inl refl))
-attribute_safe p line n v name a = safe_looks n IsWithin _ (λ m good le. kind_attribute_safe p line m.heap v (object.kind_of m.heap v) on_another name (within_on n m.heap v le a) (inl refl))
+attribute_safe p line n none name a = safe_looks n IsWithin _ (λ root m good le. kind_attribute_safe p line m.heap none (object.kind_of m.heap none) on_another name tt (inl refl))
+attribute_safe p line n v name a = safe_looks n IsWithin _ (λ root m good le. kind_attribute_safe p line m.heap v (object.kind_of m.heap v) on_another name (within_on n m.heap v le a) (inl refl))
 
-entered_in : {p : Program} (m : Memory) (place line name : ℕ) (v : Value) (o : Object) → Good p m → o ≡ object_at m.heap place → ObjectWithin m.heap o → IsWithin m.heap v → SafeIn p m Free (attribute.store_in_object place line name v o)
+entered_in : {p : Program} {root : Heap} (m : Memory) (place line name : ℕ) (v : Value) (o : Object) → Good p root m → o ≡ object_at m.heap place → ObjectWithin m.heap o → IsWithin m.heap v → SafeIn p root m Free (attribute.store_in_object place line name v o)
 entered_in m place line name v (object.instance c es) good e h a = enter_instance m place c name es v good e h a
 entered_in m place line name v (object.class c es) good e h a = enter_class m place c name es v good e h a
-entered_in m place line name v o good e h a = (safe_if m.heap Free (takes_attributes o) done (lacks line on_another name) (safe_done m.heap) (lacks_safe m.heap Free line on_another name)).keeps m good (grown_self m.heap)
+entered_in {p} {root} m place line name v o good e h a = (safe_if m.heap Free (takes_attributes o) done (lacks line on_another name) (safe_done m.heap) (lacks_safe m.heap Free line on_another name)).keeps root m good (grown_self m.heap)
 
 pub store_attribute_safe : {p : Program} (line : ℕ) (n : Heap) (c : Value) (name : ℕ) (v : Value) → IsWithin n v → Safe p n Free (store_attribute line c name v)
-store_attribute_safe line n (ref place) name v a = safe_at_now n Free place (attribute.store_in_object place line name v) (λ m good le o e w. entered_in m place line name v o good e w (within_on n m.heap v le a))
+store_attribute_safe line n (ref place) name v a = safe_at_now n Free place (attribute.store_in_object place line name v) (λ root m good le o e w. entered_in m place line name v o good e w (within_on n m.heap v le a))
 store_attribute_safe line n none name v a = lacks_safe n Free line _ name
 store_attribute_safe line n _ name v a = lacks_safe n Free line _ name
 
 super_member_safe : (p : Program) (line : ℕ) (n : Heap) (receiver : Value) (c name : ℕ) (o : Option ℕ) → IsWithin n receiver → Safe p n IsWithin (super_member p line receiver c name o)
 super_member_safe p line n receiver c name None a = init_or_lacks p line n (on_instance c) name
 super_member_safe p line n receiver c name (Some owner) a =
-    safe_looks n IsWithin _ (λ m good le. safe_found m.heap IsWithin (entry (members_of m.heap owner) name) (bound_to receiver) _ (entry_within m.heap (members_of m.heap owner) name (members_within m.heap m.heap owner good.heap)) (λ v w. bound_safe m.heap receiver v (within_on n m.heap receiver le a) w) (lacks_safe m.heap IsWithin line _ name))
+    safe_looks n IsWithin _ (λ root m good le. safe_found m.heap IsWithin (entry (members_of m.heap owner) name) (bound_to receiver) _ (entry_within m.heap (members_of m.heap owner) name (members_within m.heap m.heap owner good.heap)) (λ v w. bound_safe m.heap receiver v (within_on n m.heap receiver le a) w) (lacks_safe m.heap IsWithin line _ name))
 
 super_object_safe : (p : Program) (line : ℕ) (n : Heap) (own : Option ℕ) (v : Value) (name : ℕ) (o : Object) → IsWithin n v → Safe p n IsWithin (super_of_object p line own v name o)
 super_object_safe p line n own v name (object.instance c es) a = super_member_safe p line n v c name _ a
@@ -395,7 +395,7 @@ object_test_safe p fuel raised o n h =
     (parts_or n (tuple_parts p o) (tuple_test p fuel raised) (decided (test_class p raised (class_of_object o))) (tuple_parts_within p n o h) (λ vs k le w. tuple_test_safe p fuel raised k vs w) (decided_safe n _))
 
 matches_object_safe : (p : Program) (raised : Object) (n : Heap) (v : Value) → Safe p n Free (matches_object p raised v)
-matches_object_safe p raised n (ref place) = safe_looks n Free _ (λ m good le. object_test_safe p (length m.heap) raised (object_at m.heap place) m.heap (object_within m place good))
+matches_object_safe p raised n (ref place) = safe_looks n Free _ (λ root m good le. object_test_safe p (length m.heap) raised (object_at m.heap place) m.heap (object_within m place good))
 matches_object_safe p raised n none = decided_safe n perhaps
 matches_object_safe p raised n _ = decided_safe n perhaps
 

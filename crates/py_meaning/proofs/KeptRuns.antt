@@ -198,7 +198,7 @@ one_value n vs h = safe_bind n Free OptionWithin (pick (length vs)) (λ i. gives
 
 method_outside_safe : (p : Program) (f : ℕ) (row : FunRow) (names : List ℕ) (owner : ℕ) (n : Heap) → Block p row.body → Safe p n IsWithin (method_from_outside p f row names owner)
 method_outside_safe p f row names owner n b =
-    safe_looks n IsWithin (λ m. bind (one_of (receivers p row owner 0 m.heap)) (enter_from_outside p f row names)) (λ m good le.
+    safe_looks n IsWithin (λ m. bind (one_of (receivers p row owner 0 m.heap)) (enter_from_outside p f row names)) (λ root m good le.
     safe_bind m.heap OptionWithin IsWithin (one_of (receivers p row owner 0 m.heap)) (enter_from_outside p f row names) (one_value m.heap (receivers p row owner 0 m.heap) (receivers_within p row owner m.heap 0 m.heap (omega arith))) (λ o k le' w. from_outside_safe p f row names o k w b))
 
 class_or : (p : Program) (f : ℕ) (row : FunRow) (names : List ℕ) (n : Heap) (o : Option ℕ) → Block p row.body → Safe p n IsWithin (elim o [ None ↦ enter_from_outside p f row names None | Some owner ↦ method_from_outside p f row names owner ])
@@ -241,12 +241,12 @@ scope_after_within n k (outside_call o) before c le h good = record { globals = 
 scope_after_within n k (while_turn test body) before c le h good = good
 scope_after_within n k (for_turn target body line v x) before c le h good = good
 
-left_good : {p : Program} (q : Request) (m u : Memory) → Good p m → Grown p m.heap u.heap → Good p u → Good p (left_by (pointing p) q m u)
-left_good q m u good le h = record { heap = h.heap; scope = scope_after_within m.heap u.heap q m.scope u.scope le good.scope h.scope; classes = h.classes }
+left_good : {p : Program} {root : Heap} (q : Request) (m u : Memory) → Good p root m → Grown p m.heap u.heap → Good p root u → Good p root (left_by (pointing p root) q m u)
+left_good q m u good le h = record { heap = h.heap; scope = scope_after_within m.heap u.heap q m.scope u.scope le good.scope h.scope; classes = h.classes; goes_on = h.goes_on }
 
-pub turn_holds : (p : Program) (q : Request) (way g : Unit {0}) (m : Memory) → Good p m → RequestWithin p m.heap q → Holds (pointing p) (GaveInside (pointing p) q way g m) (RaisedInside (pointing p) q way g m) g m (perform p q)
-turn_holds p q way g m good w =
-    holds_map (pointing p) (Ended p m.heap FlowWithin) (GaveInside (pointing p) q way g m) (Ended p m.heap IsWithin) (RaisedInside (pointing p) q way g m) (perform p q) g m ((perform_safe p q m.heap w).keeps m good (grown_self m.heap) m.heap (grown_self m.heap))
+pub turn_holds : (p : Program) (root : Heap) (q : Request) (way g : Unit {0}) (m : Memory) → Good p root m → RequestWithin p m.heap q → Holds (pointing p root) (GaveInside (pointing p root) q way g m) (RaisedInside (pointing p root) q way g m) g m (perform p q)
+turn_holds p root q way g m good w =
+    holds_map (pointing p root) (Ended p root m.heap FlowWithin) (GaveInside (pointing p root) q way g m) (Ended p root m.heap IsWithin) (RaisedInside (pointing p root) q way g m) (perform p q) g m ((perform_safe p q m.heap w).keeps root m good (grown_self m.heap) m.heap (grown_self m.heap))
     (λ flow one u e. (e.0, left_good q m u good e.0 e.1, e.2)) (λ v one u e. (e.0, left_good q m u good e.0 e.1, e.2))
 
 -- ---- a run of a module
@@ -257,7 +257,7 @@ tell_safe name n (Some v) a h = safe_tells n Free (held name v) a h
 
 pub tell_names_safe : {p : Program} (names : List ℕ) (n : Heap) → Safe p n Free (tell_names names)
 tell_names_safe [] n = safe_done n
-tell_names_safe (name ∷ names) n = safe_looks n Free (λ m. tell_if name (entry m.scope.globals name) (tell_names names)) (λ m good le. tell_safe name m.heap (entry m.scope.globals name) (tell_names names) (tell_names_safe names m.heap))
+tell_names_safe (name ∷ names) n = safe_looks n Free (λ m. tell_if name (entry m.scope.globals name) (tell_names names)) (λ root m good le. tell_safe name m.heap (entry m.scope.globals name) (tell_names names) (tell_names_safe names m.heap))
 
 call_if_safe : {p : Program} (b : Bool) (c : OutsideCall) (n : Heap) → Safe p n Free (call_if b c)
 call_if_safe false c n = safe_done n
@@ -266,4 +266,4 @@ call_if_safe true c n = safe_turn n Free (outside_call c) (λ o. done) tt (λ o 
 pub make_calls_safe : (p : Program) (cs : List OutsideCall) (n : Heap) → Safe p n Free (make_calls p cs)
 make_calls_safe p [] n = safe_done n
 make_calls_safe p (c ∷ cs) n =
-    safe_then n Free Free (looks (λ m. call_if (can_be_called p m.heap c) c)) (make_calls p cs) (safe_looks n Free (λ m. call_if (can_be_called p m.heap c) c) (λ m good le. call_if_safe (can_be_called p m.heap c) c m.heap)) (λ k le. make_calls_safe p cs k)
+    safe_then n Free Free (looks (λ m. call_if (can_be_called p m.heap c) c)) (make_calls p cs) (safe_looks n Free (λ m. call_if (can_be_called p m.heap c) c) (λ root m good le. call_if_safe (can_be_called p m.heap c) c m.heap)) (λ k le. make_calls_safe p cs k)

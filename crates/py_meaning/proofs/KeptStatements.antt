@@ -50,7 +50,7 @@ request_on n k (outside_call c) le h = tt
 
 pub safe_turn : {p : Program} {A : Type 0} (n : Heap) (P : Heap → A → Type 0) (q : Request) (k : Outcome → Action A) → RequestWithin p n q → ((o : Outcome) (j : Heap) → Grown p n j → OutcomeWithin j o → Safe p j P (k o)) → Safe p n P (turn q k)
 safe_turn n P q k w h = record {
-  keeps = λ m good le base low. (good, (tt, request_on n m.heap q le w, λ o one u e. (h o u.heap (grown_on le e.0) e.2).keeps u e.1 (grown_self u.heap) base (grown_on low e.0)));
+  keeps = λ root m good le base low. (good, (tt, request_on n m.heap q le w, λ o one u e. (h o u.heap (grown_on le e.0) e.2).keeps root u e.1 (grown_self u.heap) base (grown_on low e.0)));
 }
 
 -- ---- calls
@@ -160,7 +160,7 @@ mutual
   eval_kind_safe p (tree.attr a i) line site n =
       safe_bind n IsWithin IsWithin (eval p a) (λ v. then_do may_raise (read_attribute p line v i)) (eval_safe p a n) (λ v k le w. may_then k IsWithin (read_attribute p line v i) (attribute_safe p line k v i w))
   eval_kind_safe p (tree.super i) line site n =
-      may_then n IsWithin (looks (λ m. super_in p line i m.scope.frame)) (safe_looks n IsWithin (λ m. super_in p line i m.scope.frame) (λ m good le. super_in_safe p line i m.heap m.scope.frame good.scope.frame))
+      may_then n IsWithin (looks (λ m. super_in p line i m.scope.frame)) (safe_looks n IsWithin (λ m. super_in p line i m.scope.frame) (λ root m good le. super_in_safe p line i m.heap m.scope.frame good.scope.frame))
   eval_kind_safe p (tree.item a i) line site n =
       safe_bind n IsWithin IsWithin (eval p a) (λ v. bind (eval p i) (λ w. then_do may_raise (read_item p line v w))) (eval_safe p a n) (λ v k le x.
       safe_bind k IsWithin IsWithin (eval p i) (λ w. then_do may_raise (read_item p line v w)) (eval_safe p i k) (λ w j le' y. may_then j IsWithin (read_item p line v w) (read_item_safe p line j v w)))
@@ -235,7 +235,7 @@ put_each_safe p (expr t ts) n v a = safe_then n Free Free (put p t v) (put_each 
 
 extend_safe : (p : Program) (line place : ℕ) (n : Heap) (w : Value) → IsWithin n (ref place) → IsWithin n w → Safe p n IsWithin (extend_in_place p line place w)
 extend_safe p line place n w a b =
-    safe_looks n IsWithin (λ m. if is_iterable m.heap w then bind (items_of p w) (λ ws. then_do (add_parts place ws) (gives (ref place))) else fails line not_iterable) (λ m good le.
+    safe_looks n IsWithin (λ m. if is_iterable m.heap w then bind (items_of p w) (λ ws. then_do (add_parts place ws) (gives (ref place))) else fails line not_iterable) (λ root m good le.
     safe_if m.heap IsWithin (is_iterable m.heap w) (bind (items_of p w) (λ ws. then_do (add_parts place ws) (gives (ref place)))) (fails line not_iterable)
     (safe_bind m.heap AreWithin IsWithin (items_of p w) (λ ws. then_do (add_parts place ws) (gives (ref place))) (items_safe p m.heap w (within_on n m.heap w le b)) (λ ws k le' x.
     safe_then k Free IsWithin (add_parts place ws) (gives (ref place)) (add_parts_safe place k ws x) (λ j le''. safe_gives j (ref place) (within_on n j (ref place) (grown_on le (grown_on le' le'')) a))))
@@ -335,12 +335,12 @@ take_all_safe p home (q ∷ qs) n = safe_then n Free Free (take_one p home q) (t
 
 made_exception_safe : {p : Program} (n : Heap) (v : Value) (site line : ℕ) → IsWithin n v → Safe p n IsWithin (made_exception v site line)
 made_exception_safe n v site line a =
-    safe_looks n IsWithin (λ m. chosen (is_some (class_at m.heap v)) (call_value v [] site line) (then_do may_raise (gives v))) (λ m good le.
+    safe_looks n IsWithin (λ m. chosen (is_some (class_at m.heap v)) (call_value v [] site line) (then_do may_raise (gives v))) (λ root m good le.
     chosen_safe m.heap IsWithin (is_some (class_at m.heap v)) (call_value v [] site line) (then_do may_raise (gives v)) (call_safe m.heap v [] site line (within_on n m.heap v le a) tt) (may_then m.heap IsWithin (gives v) (safe_gives m.heap v (within_on n m.heap v le a))))
 
 raise_value_safe : {A : Type 0} (p : Program) (n : Heap) (P : Heap → A → Type 0) (v : Value) → IsWithin n v → Safe p n P (raise_value p v)
 raise_value_safe p n P v a =
-    may_then n P (looks (λ m. if is_exception_value p m.heap v then raises v else raise_builtin (codes "TypeError"))) (safe_looks n P (λ m. if is_exception_value p m.heap v then raises v else raise_builtin (codes "TypeError")) (λ m good le.
+    may_then n P (looks (λ m. if is_exception_value p m.heap v then raises v else raise_builtin (codes "TypeError"))) (safe_looks n P (λ m. if is_exception_value p m.heap v then raises v else raise_builtin (codes "TypeError")) (λ root m good le.
     safe_if m.heap P (is_exception_value p m.heap v) (raises v) (raise_builtin (codes "TypeError")) (safe_raises m.heap P v (within_on n m.heap v le a)) (safe_raise m.heap P (codes "TypeError"))))
 
 raise_made_safe : {A : Type 0} (p : Program) (n : Heap) (P : Heap → A → Type 0) (v : Value) (site line : ℕ) → IsWithin n v → Safe p n P (raise_made p v site line)
@@ -351,7 +351,7 @@ handled_safe n P None h = safe_raise n P (codes "RuntimeError")
 handled_safe n P (Some v) h = safe_raises n P v h
 
 raise_again_safe : {p : Program} {A : Type 0} (n : Heap) (P : Heap → A → Type 0) → Safe p n P raise_again
-raise_again_safe n P = may_then n P (looks (λ m. handled_or_error m.scope.handled)) (safe_looks n P (λ m. handled_or_error m.scope.handled) (λ m good le. handled_safe m.heap P m.scope.handled good.scope.handled))
+raise_again_safe n P = may_then n P (looks (λ m. handled_or_error m.scope.handled)) (safe_looks n P (λ m. handled_or_error m.scope.handled) (λ root m good le. handled_safe m.heap P m.scope.handled good.scope.handled))
 
 raise_assertion_safe : {A : Type 0} (p : Program) (n : Heap) (P : Heap → A → Type 0) (site line : ℕ) → Safe p n P (raise_assertion p site line)
 raise_assertion_safe p n P site line =
@@ -438,13 +438,13 @@ for_safe p target body line n v a b =
 
 -- ---- functions and classes
 
-entered_member : {p : Program} (m : Memory) (place name : ℕ) (v : Value) (o : Object) → Good p m → o ≡ object_at m.heap place → ObjectWithin m.heap o → IsWithin m.heap v → SafeIn p m Free (with_member place name v o)
+entered_member : {p : Program} {root : Heap} (m : Memory) (place name : ℕ) (v : Value) (o : Object) → Good p root m → o ≡ object_at m.heap place → ObjectWithin m.heap o → IsWithin m.heap v → SafeIn p root m Free (with_member place name v o)
 entered_member m place name v (object.class c es) good e h a = enter_class m place c name es v good e h a
-entered_member m place name v (object.list site vs) good e h a = (safe_done m.heap).keeps m good (grown_self m.heap)
-entered_member m place name v o good e h a = (safe_done m.heap).keeps m good (grown_self m.heap)
+entered_member {p} {root} m place name v (object.list site vs) good e h a = (safe_done m.heap).keeps root m good (grown_self m.heap)
+entered_member {p} {root} m place name v o good e h a = (safe_done m.heap).keeps root m good (grown_self m.heap)
 
 pub set_member_safe : {p : Program} (place name : ℕ) (n : Heap) (v : Value) → IsWithin n v → Safe p n Free (set_member place name v)
-set_member_safe place name n v a = safe_at_now n Free place (with_member place name v) (λ m good le o e w. entered_member m place name v o good e w (within_on n m.heap v le a))
+set_member_safe place name n v a = safe_at_now n Free place (with_member place name v) (λ root m good le o e w. entered_member m place name v o good e w (within_on n m.heap v le a))
 
 pub put_member_safe : (p : Program) (place : ℕ) (x : Member) (n : Heap) → Safe p n Free (put_member p place x)
 put_member_safe p place (tree.value i x line) n = safe_bind n IsWithin Free (eval p x) (set_member place i) (eval_safe p x n) (λ v k le w. set_member_safe place i k v w)
@@ -494,7 +494,7 @@ handled_within n o c good h = record { globals = good.globals; frame = good.fram
 
 handling_safe : {p : Program} (n : Heap) (v : Value) (a : Action Flow) → IsWithin n v → ((k : Heap) → Grown p n k → Safe p k FlowWithin a) → Safe p n FlowWithin (handling v a)
 handling_safe n v a w h =
-    safe_looks n FlowWithin (λ m. changes (with_handled (Some v)) (afterwards a (with_handled m.scope.handled))) (λ m good le.
+    safe_looks n FlowWithin (λ m. changes (with_handled (Some v)) (afterwards a (with_handled m.scope.handled))) (λ root m good le.
     safe_changes m.heap FlowWithin (with_handled (Some v)) (afterwards a (with_handled m.scope.handled)) (λ c k le' within. handled_within k (Some v) c within (within_on n k v (grown_on le le') w))
     (safe_afterwards m.heap FlowWithin a (with_handled m.scope.handled) gives_flow (λ c k le' within. handled_within k m.scope.handled c within (option_on m.heap k m.scope.handled le' good.scope.handled)) (h m.heap le)))
 

@@ -144,7 +144,7 @@ contents_within n (object.outside (term.tuple ts)) h = all_declared n (list_of t
 contents_within n (object.outside (term.tuple_of t)) h = (tt, tt)
 contents_within n _ h = tt
 
-pub contents_at_within : {p : Program} (m : Memory) (v : Value) → Good p m → ContentsWithin m.heap (contents_at m.heap v)
+pub contents_at_within : {p : Program} {root : Heap} (m : Memory) (v : Value) → Good p root m → ContentsWithin m.heap (contents_at m.heap v)
 contents_at_within m (ref place) good = contents_within m.heap (object_at m.heap place) (object_within m place good)
 contents_at_within m none good = tt
 contents_at_within m _ good = tt
@@ -221,13 +221,13 @@ by_row_safe n line g (Some ks) h = safe_bind n Free IsWithin _ _ (safe_one n ks)
 
 pub binary_safe : (p : Program) (op : BinOp) (site line : ℕ) (n : Heap) (v w : Value) → Safe p n IsWithin (binary p op site line v w)
 binary_safe p op site line n v w =
-    safe_looks n IsWithin _ (λ m good le.
+    safe_looks n IsWithin _ (λ root m good le.
     safe_if m.heap IsWithin _ _ _ (safe_anything m.heap)
     (by_row_safe m.heap line _ _ (λ k j le'. made_safe p op k site j _ (contents_on m.heap j _ le' (contents_append m.heap _ _ (contents_at_within m v good) (contents_at_within m w good))))))
 
 pub unary_safe : {p : Program} (op : UnaryOp) (line : ℕ) (n : Heap) (v : Value) → Safe p n IsWithin (unary op line v)
 unary_safe op line n v =
-    safe_looks n IsWithin _ (λ m good le. safe_if m.heap IsWithin _ _ _ (safe_anything m.heap) (by_row_safe m.heap line _ _ (λ k j le'. kind_safe j k)))
+    safe_looks n IsWithin _ (λ root m good le. safe_if m.heap IsWithin _ _ _ (safe_anything m.heap) (by_row_safe m.heap line _ _ (λ k j le'. kind_safe j k)))
 
 known_safe : {p : Program} (n : Heap) (g : Bool → Bool) (o : Option Bool) → Safe p n IsWithin (known_truth g o)
 known_safe n g None = safe_either n
@@ -235,16 +235,16 @@ known_safe n g (Some b) = safe_gives n _ tt
 
 ordered_safe : {p : Program} (line : ℕ) (n : Heap) (v w : Value) → Safe p n IsWithin (ordered line v w)
 ordered_safe line n v w =
-    safe_looks n IsWithin _ (λ m good le. safe_if m.heap IsWithin _ _ _ (safe_anything m.heap) (by_row_safe m.heap line _ _ (λ k j le'. kind_safe j k)))
+    safe_looks n IsWithin _ (λ root m good le. safe_if m.heap IsWithin _ _ _ (safe_anything m.heap) (by_row_safe m.heap line _ _ (λ k j le'. kind_safe j k)))
 
 within_safe : {p : Program} (line : ℕ) (n : Heap) (v w : Value) → Safe p n IsWithin (within line v w)
-within_safe line n v w = safe_looks n IsWithin _ (λ m good le. safe_if m.heap IsWithin _ _ _ (safe_either m.heap) (safe_fails m.heap IsWithin line _))
+within_safe line n v w = safe_looks n IsWithin _ (λ root m good le. safe_if m.heap IsWithin _ _ _ (safe_either m.heap) (safe_fails m.heap IsWithin line _))
 
 pub compare_safe : {p : Program} (op : CompareOp) (line : ℕ) (n : Heap) (v w : Value) → Safe p n IsWithin (compare op line v w)
 compare_safe cmp.Equal line n v w = safe_either n
 compare_safe cmp.NotEqual line n v w = safe_either n
-compare_safe cmp.Is line n v w = safe_looks n IsWithin _ (λ m good le. known_safe m.heap _ _)
-compare_safe cmp.IsNot line n v w = safe_looks n IsWithin _ (λ m good le. known_safe m.heap _ _)
+compare_safe cmp.Is line n v w = safe_looks n IsWithin _ (λ root m good le. known_safe m.heap _ _)
+compare_safe cmp.IsNot line n v w = safe_looks n IsWithin _ (λ root m good le. known_safe m.heap _ _)
 compare_safe cmp.Within line n v w = within_safe line n v w
 compare_safe cmp.NotWithin line n v w = within_safe line n v w
 compare_safe _ line n v w = ordered_safe line n v w
@@ -366,7 +366,7 @@ iterate_in_safe p zero v n h = step_safe p (λ w. gives ended) (λ w k x. safe_s
 iterate_in_safe p (suc fuel) v n h = step_safe p (λ w. iterate_in p fuel w) (iterate_in_safe p fuel) v n h
 
 pub iterate_safe : (p : Program) (n : Heap) (v : Value) → IsWithin n v → Safe p n StepWithin (iterate p v)
-iterate_safe p n v h = safe_looks n StepWithin _ (λ m good le. iterate_in_safe p (length m.heap) v m.heap (within_on n m.heap v le h))
+iterate_safe p n v h = safe_looks n StepWithin _ (λ root m good le. iterate_in_safe p (length m.heap) v m.heap (within_on n m.heap v le h))
 
 drain_in_safe : (p : Program) (fuel : ℕ) (n : Heap) (v : Value) (sofar : List Value) → IsWithin n v → AreWithin n sofar → Safe p n AreWithin (drain_in p fuel v sofar)
 drain_in_safe p zero n v sofar h k = safe_bind n StepWithin AreWithin _ _ (iterate_safe p n v h) (λ one j le w. safe_gives_all j sofar (are_on n j sofar le k))
