@@ -3,7 +3,7 @@ ghost use Rattle.py_meaning.specs.References.{ReferencesPointIn};
 ghost use Rattle.py_meaning.specs.Receivers.{ReceiversFit};
 ghost use Rattle.py_meaning.specs.ClassLaws.{ClassesHaveOneObject};
 ghost use Rattle.py_meaning.specs.UnionLaws.{UnionsHaveTheirMembers};
-ghost use Rattle.py_meaning.specs.KindLaws.{FreshIsOfAKind, OperatorsKeepTheirRows, SignsKeepTheirRows, OrdersKeepTheirRows, OtherKindsHaveNoSlice, OtherKindsTakeNoItems};
+ghost use Rattle.py_meaning.specs.KindLaws.{FreshIsOfAKind, OperatorsKeepTheirRows, SignsKeepTheirRows, OrdersKeepTheirRows, OtherKindsHaveNoSlice, SlicesKeepTheirKind, OtherKindsTakeNoItems, StoresAreNoFaults, TruthIsByKind};
 ghost use Rattle.py_meaning.specs.Laws.{MoreTurnsChangeNothing, NestingIsEnough, ChoicesFromTheFront, WholeIsNoTruth, NothingAfterTheEnding, CallsAddEvents, StepsMayRaise, RaisesTakeAChoice};
 ghost use Rattle.py_meaning.specs.ObjectLaws.{ObjectsStay, PartsChangeByOneStep, CallsLeaveFrames};
 
@@ -94,8 +94,15 @@ pub fn unions_have_their_members()
     ensures { UnionsHaveTheirMembers }
 {}
 
-/// What has no slice, and takes no store by an index, is told by its kind alone.
+/// What has a slice, and takes a store by an index, is told by its kind alone, and a slice is of the kind of what is sliced.
 pub fn subscripts_are_by_kind()
     ensures slices { OtherKindsHaveNoSlice }
+    ensures kinds { SlicesKeepTheirKind }
     ensures stores { OtherKindsTakeNoItems }
+    ensures faults { StoresAreNoFaults }
+{}
+
+/// Whether parts, a choice or nothing says what is true is told by its kind, and of what is outside a choice says it.
+pub fn truth_is_by_kind()
+    ensures { TruthIsByKind }
 {}
