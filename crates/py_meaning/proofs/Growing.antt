@@ -11,7 +11,7 @@ use Rattle.py_meaning.specs.Objects as object
 use Rattle.py_meaning.specs.Objects.{Object, Filling, of_values, of_pairs, of_entries, refilled, object_at, kind_of_object, kind_of}
 use Rattle.py_meaning.specs.Programs.{Program, FunRow, fun_at}
 use Rattle.py_meaning.specs.ObjectLaws.{head}
-use Rattle.py_meaning.specs.ClassLaws.{class_number, NumbersApart}
+use Rattle.py_meaning.specs.ClassLaws.{class_number, class_entries, NumbersApart}
 use Rattle.py_meaning.specs.Receivers.{is_instance, is_instance_at}
 
 abbrev pub Heap : Type 0
@@ -33,13 +33,9 @@ Block p ss = ClassesApart p → IsBlock ss
 
 -- ---- what becomes of an object
 
-abbrev pub own_entries : Object → Entries
-own_entries (object.class c es) = es
-own_entries _ = []
-
 pub record Became (o q : Object) : Type 0 where
   pub same : head q ≡ head o
-  pub names : (name : ℕ) → is_some (entry (own_entries o) name) ≡ true → is_some (entry (own_entries q) name) ≡ true
+  pub names : (name : ℕ) → is_some (entry (class_entries o) name) ≡ true → is_some (entry (class_entries q) name) ≡ true
 
 pub became_self : (o : Object) → Became o o
 became_self o = record { same = refl; names = λ name e. e }

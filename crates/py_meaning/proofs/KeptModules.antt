@@ -17,7 +17,7 @@ use Rattle.py_meaning.specs.Holds.{Post, Holds, HoldsAfter}
 use Rattle.py_meaning.specs.References as points
 use Rattle.py_meaning.specs.References.{ReferencesPointIn}
 use Rattle.py_meaning.specs.Receivers.{FitsReceiver, ReceiversFit}
-use Rattle.py_meaning.specs.ClassLaws.{class_number, class_id, LeavesNumber, NumbersApart, OneObjectAClass, ClassesHaveOneObject}
+use Rattle.py_meaning.specs.ClassLaws.{class_number, class_id, LeavesNumber, NumbersApart, joined, OneObjectAClass, ClassesHaveOneObject}
 use Rattle.py_meaning.proofs.Holding.{holds_bind, holds_map, runs_hold}
 use Rattle.py_meaning.proofs.Growing.{Heap, ClassesApart, IsBlock, Grows, grown_self, grown_push, grown_class}
 use Rattle.py_meaning.proofs.Pointing.{IsWithin, ObjectWithin, ObjectsWithin, within_on}
@@ -28,12 +28,12 @@ use Rattle.py_meaning.proofs.KeptRuns.{turn_holds, tell_names_safe, make_calls_s
 
 -- ---- the classes that are still to come
 
-abbrev NoneYet : Heap → Stmts → Type 0
+abbrev pub NoneYet : Heap → Stmts → Type 0
 NoneYet n no_stmts = Unit {0}
 NoneYet n (stmt (statement (tree.class k) line) rest) = ((i : ℕ) → class_number (object_at n i) ≡ Some (class_id k) → ⊥) × NoneYet n rest
 NoneYet n (stmt _ rest) = NoneYet n rest
 
-none_on : (p : Program) (n k : Heap) (ss : Stmts) → ClassesApart p → Grows (ClassesApart p) n k → NoneYet n ss → NoneYet k ss
+pub none_on : (p : Program) (n k : Heap) (ss : Stmts) → ClassesApart p → Grows (ClassesApart p) n k → NoneYet n ss → NoneYet k ss
 none_on p n k no_stmts c g h = tt
 none_on p n k (stmt (statement (tree.class d) line) rest) c g h = (λ i e. h.0 i (grown_class i (class_id d) g c e), none_on p n k rest c g h.1)
 none_on p n k (stmt (statement (tree.def f) line) rest) c g h = none_on p n k rest c g h
@@ -42,7 +42,7 @@ none_on p n k (stmt (statement _ line) rest) c g h = none_on p n k rest c g h
 other_number : (c d : ℕ) (o : Option ℕ) → (c ≡ d → ⊥) → o ≡ Some c → o ≡ Some d → ⊥
 other_number c d o ne e f = ne (let same : Some c ≡ Some d = sym e ∙ f in grind (arith, same))
 
-none_pushed : (n : Heap) (c : ℕ) (ss : Stmts) → LeavesNumber c ss → NoneYet n ss → NoneYet (n ++ object.class c [] ∷ []) ss
+pub none_pushed : (n : Heap) (c : ℕ) (ss : Stmts) → LeavesNumber c ss → NoneYet n ss → NoneYet (n ++ object.class c [] ∷ []) ss
 none_pushed n c no_stmts l h = tt
 none_pushed n c (stmt (statement (tree.class d) line) rest) l h = (λ i e. apart (push_at n (object.class c []) i (class_id d) e) (h.0 i), none_pushed n c rest l.1 h.1)
   where
@@ -77,35 +77,39 @@ class_holds p root id name base ms own line m good apart =
         and_on_safe n Free (then_do (fill_class p ms c) (store p name c)) (safe_then n Free Free (fill_class p ms c) (store p name c) (fill_class_safe p ms n c) (λ j le. store_safe p j name c (within_on n j c le (here_within m.heap o)))) in
     (tt, tt, filled.keeps root (with_new o m) made (grown_self n) n (grown_self n))
 
-next_holds : (p : Program) (root : Heap) (flow : Flow) (a : Action Flow) (m : Memory) → Good p root m → Holds (pointing p root) (Whole p root) (Whole p root) tt m a → Holds (pointing p root) (Whole p root) (Whole p root) tt m (then_next flow a)
-next_holds p root goes_on a m good h = h
-next_holds p root breaks a m good h = good
-next_holds p root continues a m good h = good
-next_holds p root (returns v) a m good h = good
+-- statements that are carried out, where more are to come
+abbrev pub Reached : (p : Program) → (root : Heap) → Stmts → Post (pointing p root) Flow
+Reached p root more g m flow = Good p root m × (flow ≡ goes_on → Left p m.heap more)
+
+next_holds : (p : Program) (root : Heap) (more : Stmts) (flow : Flow) (a : Action Flow) (m : Memory) → Good p root m → Holds (pointing p root) (Reached p root more) (Whole p root) tt m a → Holds (pointing p root) (Reached p root more) (Whole p root) tt m (then_next flow a)
+next_holds p root more goes_on a m good h = h
+next_holds p root more breaks a m good h = (good, λ e. absurd (cc))
+next_holds p root more continues a m good h = (good, λ e. absurd (cc))
+next_holds p root more (returns v) a m good h = (good, λ e. absurd (cc))
 
 -- a statement, and those after it
-step_holds : (p : Program) (root : Heap) (n : Heap) (s a : Action Flow) (m : Memory) → Holds (pointing p root) (Ended p root n FlowWithin) (Ended p root n IsWithin) tt m s → ((m' : Memory) → Good p root m' → Grows (ClassesApart p) n m'.heap → Holds (pointing p root) (Whole p root) (Whole p root) tt m' a) →
-    Holds (pointing p root) (Whole p root) (Whole p root) tt m (bind s (λ flow. then_next flow a))
-step_holds p root n s a m h k =
-    holds_bind (pointing p root) (Ended p root n FlowWithin) (Whole p root) (Whole p root) s (λ flow. then_next flow a) tt m
+step_holds : (p : Program) (root n : Heap) (more : Stmts) (s a : Action Flow) (m : Memory) → Holds (pointing p root) (Ended p root n FlowWithin) (Ended p root n IsWithin) tt m s → ((m' : Memory) → Good p root m' → Grows (ClassesApart p) n m'.heap → Holds (pointing p root) (Reached p root more) (Whole p root) tt m' a) →
+    Holds (pointing p root) (Reached p root more) (Whole p root) tt m (bind s (λ flow. then_next flow a))
+step_holds p root n more s a m h k =
+    holds_bind (pointing p root) (Ended p root n FlowWithin) (Reached p root more) (Whole p root) s (λ flow. then_next flow a) tt m
     (holds_map (pointing p root) (Ended p root n FlowWithin) (Ended p root n FlowWithin) (Ended p root n IsWithin) (Whole p root) s tt m h (λ x g m' e. e) (λ v g m' e. e.1))
-    (λ flow g m' e. next_holds p root flow a m' e.1 (k m' e.1 e.0))
+    (λ flow g m' e. next_holds p root more flow a m' e.1 (k m' e.1 e.0))
 
-statements_hold : (p : Program) (root : Heap) (ss : Stmts) (m : Memory) → Good p root m → Left p m.heap ss → Holds (pointing p root) (Whole p root) (Whole p root) tt m (exec_all p ss)
-statements_hold p root no_stmts m good l = good
-statements_hold p root (stmt (statement (tree.class (class_def id name base ms own)) line) ss) m good l =
-    step_holds p root (m.heap ++ object.class id [] ∷ []) (exec_kind p (tree.class (class_def id name base ms own)) line) (exec_all p ss) m (class_holds p root id name base ms own line m good (λ c. (l c).3.0)) (λ m' good' g.
-    statements_hold p root ss m' good' (λ c. ((l c).0, (l c).1.1, (l c).2.1, none_on p (m.heap ++ object.class id [] ∷ []) m'.heap ss c g (none_pushed m.heap id ss (l c).2.0 (l c).3.1))))
-statements_hold p root (stmt (statement (tree.def f) line) ss) m good l =
-    step_holds p root m.heap (exec_kind p (tree.def f) line) (exec_all p ss) m ((and_on_safe m.heap Free (define_function p f) (define_function_safe p f m.heap)).keeps root m good (grown_self m.heap) m.heap (grown_self m.heap)) (λ m' good' g.
-    statements_hold p root ss m' good' (λ c. ((l c).0, (l c).1.1, (l c).2, none_on p m.heap m'.heap ss c g (l c).3)))
-statements_hold p root (stmt (statement kind line) ss) m good l =
-    step_holds p root m.heap (exec_kind p kind line) (exec_all p ss) m (plain_holds p root kind line m good (λ c. (outside (l c).0, (l c).1.0))) (λ m' good' g.
-    statements_hold p root ss m' good' (λ c. ((l c).0, (l c).1.1, (l c).2, none_on p m.heap m'.heap ss c g (l c).3)))
+pub statements_hold : (p : Program) (root : Heap) (ss more : Stmts) (m : Memory) → Good p root m → Left p m.heap (joined ss more) → Holds (pointing p root) (Reached p root more) (Whole p root) tt m (exec_all p ss)
+statements_hold p root no_stmts more m good l = (good, λ e. l)
+statements_hold p root (stmt (statement (tree.class (class_def id name base ms own)) line) ss) more m good l =
+    step_holds p root (m.heap ++ object.class id [] ∷ []) more (exec_kind p (tree.class (class_def id name base ms own)) line) (exec_all p ss) m (class_holds p root id name base ms own line m good (λ c. (l c).3.0)) (λ m' good' g.
+    statements_hold p root ss more m' good' (λ c. ((l c).0, (l c).1.1, (l c).2.1, none_on p (m.heap ++ object.class id [] ∷ []) m'.heap (joined ss more) c g (none_pushed m.heap id (joined ss more) (l c).2.0 (l c).3.1))))
+statements_hold p root (stmt (statement (tree.def f) line) ss) more m good l =
+    step_holds p root m.heap more (exec_kind p (tree.def f) line) (exec_all p ss) m ((and_on_safe m.heap Free (define_function p f) (define_function_safe p f m.heap)).keeps root m good (grown_self m.heap) m.heap (grown_self m.heap)) (λ m' good' g.
+    statements_hold p root ss more m' good' (λ c. ((l c).0, (l c).1.1, (l c).2, none_on p m.heap m'.heap (joined ss more) c g (l c).3)))
+statements_hold p root (stmt (statement kind line) ss) more m good l =
+    step_holds p root m.heap more (exec_kind p kind line) (exec_all p ss) m (plain_holds p root kind line m good (λ c. (outside (l c).0, (l c).1.0))) (λ m' good' g.
+    statements_hold p root ss more m' good' (λ c. ((l c).0, (l c).1.1, (l c).2, none_on p m.heap m'.heap (joined ss more) c g (l c).3)))
 
 -- ---- the last heap of a run
 
-nothing_good : (p : Program) → Good p [] no_memory
+pub nothing_good : (p : Program) → Good p [] no_memory
 nothing_good p = record { heap = tt; scope = record { globals = tt; frame = tt; handled = tt }; classes = λ c number i j e f. absurd (grind (arith, e)); goes_on = grown_self [] }
 
 nothing_yet : (ss : Stmts) → NoneYet [] ss
@@ -118,31 +122,35 @@ ends : (p : Program) (root : Heap) (a : Action (Unit {0})) (m : Memory) → Good
 ends p root a m good safe = holds_map (pointing p root) (Ended p root m.heap Free) (Whole p root) (Ended p root m.heap IsWithin) (Whole p root) a tt m (safe.keeps root m good (grown_self m.heap) m.heap (grown_self m.heap)) (λ x g m' e. e.1) (λ v g m' e. e.1)
 
 -- the module's statements from some on, its names, and the calls from outside
-abbrev from_on : Program → Stmts → List OutsideCall → Action (Unit {0})
+abbrev pub from_on : Program → Stmts → List OutsideCall → Action (Unit {0})
 from_on p ss calls = then_do (then_do (exec_all p ss) (tell_names (printed p))) (make_calls p calls)
 
-rest_holds : (p : Program) (root : Heap) (ss : Stmts) (calls : List OutsideCall) (m : Memory) → Good p root m → Left p m.heap ss → Holds (pointing p root) (Whole p root) (Whole p root) tt m (from_on p ss calls)
+joined_none : (ss : Stmts) → joined ss no_stmts ≡ ss
+joined_none no_stmts = refl
+joined_none (stmt s ss) = ap (stmt s) (joined_none ss)
+
+pub rest_holds : (p : Program) (root : Heap) (ss : Stmts) (calls : List OutsideCall) (m : Memory) → Good p root m → Left p m.heap ss → Holds (pointing p root) (Whole p root) (Whole p root) tt m (from_on p ss calls)
 rest_holds p root ss calls m good l =
     holds_bind (pointing p root) (Whole p root) (Whole p root) (Whole p root) (then_do (exec_all p ss) (tell_names (printed p))) (λ x. make_calls p calls) tt m
-    (holds_bind (pointing p root) (Whole p root) (Whole p root) (Whole p root) (exec_all p ss) (λ flow. tell_names (printed p)) tt m (statements_hold p root ss m good l)
-    (λ flow g m' good'. ends p root (tell_names (printed p)) m' good' (tell_names_safe (printed p) m'.heap)))
+    (holds_bind (pointing p root) (Reached p root no_stmts) (Whole p root) (Whole p root) (exec_all p ss) (λ flow. tell_names (printed p)) tt m (statements_hold p root ss no_stmts m good (subst (λ x. Left p m.heap x) (sym (joined_none ss)) l))
+    (λ flow g m' r. ends p root (tell_names (printed p)) m' r.0 (tell_names_safe (printed p) m'.heap)))
     (λ x g m' good'. ends p root (make_calls p calls) m' good' (make_calls_safe p calls m'.heap))
 
 -- what is kept of the last heap
-record Kept (p : Program) (root heap : Heap) : Type 0 where
-  objects : ObjectsWithin heap heap
-  classes : ClassesApart p → OneObjectAClass heap
-  goes_on : Grows ⊥ root heap
+pub record Kept (p : Program) (root heap : Heap) : Type 0 where
+  pub objects : ObjectsWithin heap heap
+  pub classes : ClassesApart p → OneObjectAClass heap
+  pub goes_on : Grows ⊥ root heap
 
 kept_of : (p : Program) (root : Heap) (m : Memory) → Good p root m → Kept p root m.heap
 kept_of p root m good = record { objects = good.heap; classes = good.classes; goes_on = good.goes_on }
 
-kept_after : (p : Program) (root : Heap) (r : Answer (Unit {0})) → HoldsAfter (pointing p root) (Whole p root) (Whole p root) r → Kept p root (run_of r).heap
+pub kept_after : (p : Program) (root : Heap) (r : Answer (Unit {0})) → HoldsAfter (pointing p root) (Whole p root) (Whole p root) r → Kept p root (run_of r).heap
 kept_after p root (gave a s) h = kept_of p root s.memory h.2
 kept_after p root (raised v s) h = kept_of p root s.memory h.2
 kept_after p root (stopped why s) h = kept_of p root s.memory h.2
 
-nothing_left : (p : Program) → Left p [] p.body
+pub nothing_left : (p : Program) → Left p [] p.body
 nothing_left p c = (c.body.0, c.body.1, c.numbers, nothing_yet p.body)
 
 last_heap : (m : Module) (stubs : List (List ℕ × Stub)) (n : ℕ) (choices : List ℕ) (calls : List OutsideCall) → Kept (program m stubs) [] (run m stubs n choices calls).heap
