@@ -23,6 +23,7 @@ pub mod KeptNatives
 pub mod KeptStatements
 pub mod KeptRuns
 pub mod KeptModules
+pub mod ClassNames
 mod Belonging
 mod Unions
 mod KindTables

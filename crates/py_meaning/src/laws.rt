@@ -1,7 +1,7 @@
 //! What holds of every run.
 ghost use Rattle.py_meaning.specs.References.{ReferencesPointIn};
 ghost use Rattle.py_meaning.specs.Receivers.{ReceiversFit};
-ghost use Rattle.py_meaning.specs.ClassLaws.{ClassesHaveOneObject};
+ghost use Rattle.py_meaning.specs.ClassLaws.{ClassesHaveOneObject, ClassesKeepTheirNames};
 ghost use Rattle.py_meaning.specs.UnionLaws.{UnionsHaveTheirMembers};
 ghost use Rattle.py_meaning.specs.KindLaws.{FreshIsOfAKind, OperatorsKeepTheirRows, SignsKeepTheirRows, OrdersKeepTheirRows, OtherKindsHaveNoSlice, SlicesKeepTheirKind, OtherKindsTakeNoItems, StoresAreNoFaults, TruthIsByKind};
 ghost use Rattle.py_meaning.specs.Laws.{MoreTurnsChangeNothing, NestingIsEnough, ChoicesFromTheFront, WholeIsNoTruth, NothingAfterTheEnding, CallsAddEvents, StepsMayRaise, RaisesTakeAChoice};
@@ -50,6 +50,11 @@ pub fn receivers_fit()
 /// There is one object a class.
 pub fn classes_have_one_object()
     ensures { ClassesHaveOneObject }
+{}
+
+/// From its statement on a class has each name that its body binds.
+pub fn classes_keep_their_names()
+    ensures { ClassesKeepTheirNames }
 {}
 
 /// A fresh value of a type is of a kind that the type has.
