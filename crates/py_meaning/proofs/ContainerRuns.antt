@@ -568,3 +568,23 @@ iterates_a_range : answered iterates_a_range_module [] 2 (0 ∷ 0 ∷ 0 ∷ 0 �
 }
 unfolding answer turns_within
 iterates_a_range = refl
+
+-- the key that was there stays
+--     d = {1: 2}
+--     d[5] = 3
+abbrev keeps_the_old_key_module : Module
+keeps_the_old_key_module = record {
+  body = stmt (statement (tree.assign (expr (node (tree.name 0) 1 0) no_exprs) (node (tree.dict (pair (node (tree.literal (lit.Int false 1)) 1 1) (node (tree.literal (lit.Int false 2)) 1 2) no_pairs)) 1 3)) 1)
+      (stmt (statement (tree.assign (expr (node (tree.item (node (tree.name 0) 2 4) (node (tree.literal (lit.Int false 5)) 2 5)) 2 6) no_exprs) (node (tree.literal (lit.Int false 3)) 2 7)) 2) no_stmts);
+  names = codes "d" ∷ [];
+}
+
+keeps_the_old_key : answered keeps_the_old_key_module [] 0 (0 ∷ 0 ∷ 0 ∷ []) ([]) ≡ record {
+  events = event.held 0 (ref 0) ∷ [];
+  heap = object.dict 3 ((whole (pos 1), whole (pos 3)) ∷ []) ∷ [];
+  ending = ended;
+  choices = [];
+  turns = 0;
+}
+unfolding answer turns_within
+keeps_the_old_key = refl

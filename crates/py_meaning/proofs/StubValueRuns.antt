@@ -2,16 +2,17 @@
 use Rattle.std.specs.Prelude.{◌≡◌, pos, true, false, [], ◌∷◌, Some, None, refl, codes}
 use Rattle.place_ids.specs.declared.operators.BinOp.TheVariants as bin
 use Rattle.place_ids.specs.declared.operators.CompareOp.TheVariants as cmp
+use Rattle.builtin_stubs.specs.declared.basic.Basic.TheVariants as kind
 use Rattle.py_tree.specs.declared.literal.Literal.TheVariants as lit
 use Rattle.type_terms.specs.Terms as term
 use Rattle.type_terms.specs.Stubs.{Stub}
 use Rattle.py_tree.specs.Tree as tree
 use Rattle.py_tree.specs.Tree.{Module, node, Exprs, no_exprs, expr, no_bound, bound, no_args, arg, no_pairs, pair, statement, no_stmts, stmt, no_arms, arm, no_handlers, handler, fun_def, class_def, no_members, member}
-use Rattle.py_meaning.specs.Values.{truth, whole, ref}
+use Rattle.py_meaning.specs.Values.{truth, whole, text, ref}
 use Rattle.py_meaning.specs.Objects as object
 use Rattle.py_meaning.specs.Events as event
-use Rattle.py_meaning.specs.Runs.{turns_within, answer, ended}
-use Rattle.py_meaning.proofs.Samples.{answered, native, error, anything}
+use Rattle.py_meaning.specs.Runs.{turns_within, answer, ended, raised_out}
+use Rattle.py_meaning.proofs.Samples.{answered, native, method, error, anything}
 
 -- v: Any, o: object, u: Union[K, KeyError], xs: List[int], d: Dict[str, int], e: Tuple[()]
 -- class K, class Err(KeyError)
@@ -246,3 +247,79 @@ an_empty_tuple_has_no_element : answered an_empty_tuple_has_no_element_module ((
 }
 unfolding answer turns_within
 an_empty_tuple_has_no_element = refl
+
+--     from m import xs
+--     xs *= 3
+abbrev forgets_what_is_multiplied_module : Module
+forgets_what_is_multiplied_module = record {
+  body = stmt (statement (tree.from (0 ∷ []) (record { name = 1; alias = None } ∷ [])) 1) (stmt (statement (tree.augment (node (tree.name 1) 2 0) bin.Mul (node (tree.literal (lit.Int false 3)) 2 1)) 2) no_stmts);
+  names = codes "m" ∷ codes "xs" ∷ [];
+}
+
+forgets_what_is_multiplied : answered forgets_what_is_multiplied_module ((codes "m", m) ∷ []) 0 (0 ∷ 0 ∷ 0 ∷ []) ([]) ≡ record {
+  events = event.held 1 (ref 0) ∷ [];
+  heap = object.outside (term.list term.int) ∷ [];
+  ending = ended;
+  choices = [];
+  turns = 0;
+}
+unfolding answer turns_within
+forgets_what_is_multiplied = refl
+
+-- a slice of a tuple has parts, and no places
+--     from m import e
+--     x = e[:]
+abbrev slices_have_no_places_module : Module
+slices_have_no_places_module = record {
+  body = stmt (statement (tree.from (0 ∷ []) (record { name = 1; alias = None } ∷ [])) 1) (stmt (statement (tree.assign (expr (node (tree.name 2) 2 0) no_exprs) (node (tree.slice (node (tree.name 1) 2 1) no_bound no_bound no_bound) 2 2)) 2) no_stmts);
+  names = codes "m" ∷ codes "e" ∷ codes "x" ∷ [];
+}
+
+slices_have_no_places : answered slices_have_no_places_module ((codes "m", m) ∷ []) 0 (0 ∷ 0 ∷ 0 ∷ []) ([]) ≡ record {
+  events = event.held 2 (ref 1) ∷ [];
+  heap = object.outside (term.tuple term.no_terms) ∷ object.tuple 2 object.parts [] ∷ [];
+  ending = ended;
+  choices = [];
+  turns = 0;
+}
+unfolding answer turns_within
+slices_have_no_places = refl
+
+-- what is missed by the store in place is missed at the target's line
+--     (
+--     int).z += 1
+abbrev misses_at_the_target_module : Module
+misses_at_the_target_module = record {
+  body = stmt (statement (tree.augment (node (tree.attr (node (tree.name 0) 2 0) 1) 2 1) bin.Add (node (tree.literal (lit.Int false 1)) 2 2)) 1) no_stmts;
+  names = codes "int" ∷ codes "z" ∷ [];
+}
+
+misses_at_the_target : answered misses_at_the_target_module [] 0 (0 ∷ 0 ∷ 0 ∷ 0 ∷ []) ([]) ≡ record {
+  events = event.fault 2 event.attribute_error event.on_another (Some 1) ∷ [];
+  heap = native (codes "int") ∷ anything ∷ anything ∷ error (codes "AttributeError") ∷ [];
+  ending = raised_out (ref 3);
+  choices = [];
+  turns = 0;
+}
+unfolding answer turns_within
+misses_at_the_target = refl
+
+-- keys are of the first of the declared types, and values of the second
+--     from m import d
+--     y = d.copy()
+abbrev copies_what_is_declared_module : Module
+copies_what_is_declared_module = record {
+  body = stmt (statement (tree.from (0 ∷ []) (record { name = 1; alias = None } ∷ [])) 1)
+      (stmt (statement (tree.assign (expr (node (tree.name 2) 2 0) no_exprs) (node (tree.call (node (tree.attr (node (tree.name 1) 2 1) 3) 2 2) no_args) 2 3)) 2) no_stmts);
+  names = codes "m" ∷ codes "d" ∷ codes "y" ∷ codes "copy" ∷ [];
+}
+
+copies_what_is_declared : answered copies_what_is_declared_module ((codes "m", m) ∷ []) 1 (0 ∷ 0 ∷ 0 ∷ 0 ∷ 0 ∷ 7 ∷ []) ([]) ≡ record {
+  events = event.held 2 (ref 2) ∷ [];
+  heap = object.outside (term.dict term.str term.int) ∷ method kind.Dict (codes "copy") (ref 0) ∷ object.dict 3 ((text true, whole (pos 7)) ∷ []) ∷ [];
+  ending = ended;
+  choices = [];
+  turns = 0;
+}
+unfolding answer turns_within
+copies_what_is_declared = refl
