@@ -50,8 +50,8 @@ use Rattle.world_covering.specs.Modules.{Settings, source_of}
 use Rattle.world_covering.specs.Keeping.{code_in, IsSeated, Kept, Pending}
 use Rattle.world_covering.proofs.Built.{IsBuilt}
 use Rattle.world_covering.proofs.Growing.{stays_here, stays_new}
-use Rattle.world_covering.proofs.Instructions.{constant_kept, copy_kept, pop_kept, jump_kept, false_leaves, false_keeps, true_keeps, binary_kept, in_place_kept, compare_kept, unary_kept, not_kept}
-use Rattle.world_covering.proofs.Names.{kept_unbound, pending_unbound, stores_name}
+use Rattle.world_covering.proofs.Instructions.{constant_kept, copy_kept, pop_kept, jump_kept, false_leaves, false_keeps, true_keeps, true_leaves, binary_kept, in_place_kept, compare_kept, unary_kept, not_kept}
+use Rattle.world_covering.proofs.Names.{kept_unbound, pending_unbound, stores_name, forgets_name}
 use Rattle.world_covering.proofs.Rows.{gave}
 use Rattle.world_covering.proofs.RowsHold.{rows_hold}
 use Rattle.world_covering.proofs.Steps.{pending_at, pending_under, pushes}
@@ -175,14 +175,14 @@ module _ (m : Module) (stubs : List (List ℕ × Stub)) (settings : Settings) (i
           picks = λ x place line below stack v g mem l e k. copy_kept s items no_name closed x place line below stack v mem l e k;
           jumps = λ x place line goal stack g mem l k. jump_kept s items no_name closed x place line goal stack mem (inside x place line goal (op.Jump goal) k.here refl l) l k;
           leaves_if_false = λ x place line goal v stack g mem l k. false_leaves s items no_name closed x place line goal stack mem (inside x place line goal (op.JumpIfFalse goal) k.here refl l) v l k;
-          leaves_if_true = λ x place line goal v stack g mem l k. absurd (built k.here l);
+          leaves_if_true = λ x place line goal v stack g mem l k. true_leaves s items no_name closed x place line goal stack mem (inside x place line goal (op.JumpIfTrue goal) k.here refl l) v l k;
           keeps_if_false = λ x place line goal v stack g mem l k. false_keeps s items no_name closed x place line goal stack mem (inside x place line goal (op.JumpIfFalseKeep goal) k.here refl l) v l k;
           keeps_if_true = λ x place line goal v stack g mem l k. true_keeps s items no_name closed x place line goal stack mem (inside x place line goal (op.JumpIfTrueKeep goal) k.here refl l) v l k;
           inverts = λ x v. not_kept s items no_name closed x v;
           next = λ x place line goal v stack g mem l k. absurd (built k.here l);
           loads = λ x n place line stack g mem l k. loads_here x place line n stack mem (built k.here l) l k;
           stores = λ x place line n v stack g mem l k. stores_name s items p closed x.context place line n x.outer v stack mem l k;
-          forgets = λ x place line n stack g mem l k. absurd (built k.here l);
+          forgets = λ x place line n stack g mem l k. forgets_name s items p closed x.context place line n x.outer stack mem l k;
           still_at = λ x place n stack g mem k. kept_unbound s items p x.context place n stack mem k;
           still_sent = λ x n stack v g mem q. pending_unbound s items p x.context x.outer n stack mem q;
           still_returned = λ x n v g mem r. r;

@@ -175,6 +175,12 @@ module _ (s : Source) (items : List Item) (error : ℕ) (closed : IsClosed s ite
           (λ p. leaps s items closed x.context place line x.outer (op.JumpIfTrueKeep goal) (v ∷ stack) m l k (omega arith) (v ∷ stack) (record { goal = goal; on_jump = Some MayBeTrue; on_fall = Some MayBeFalse }) refl fits (omega arith) (asked k true p) k.slots)
           (λ p. drops s items closed x.context place line x.outer (op.JumpIfTrueKeep goal) (v ∷ stack) m l k (omega arith) stack refl refl (omega arith) refl (asked k false p) k.slots.1)
 
+      pub true_leaves : OpIn t x place (op.JumpIfTrue goal) line → At' x place (v ∷ stack) m → Holds (account t) (ChoiceAt t x goal (suc place) stack stack) (SentOver t x stack) tt m (truth_of v)
+      true_leaves l k =
+          choice (op.JumpIfTrue goal) goal (suc place) stack stack k
+          (λ p. leaps s items closed x.context place line x.outer (op.JumpIfTrue goal) (v ∷ stack) m l k (omega arith) stack (record { goal = goal; on_jump = Some MayBeTrue; on_fall = Some MayBeFalse }) refl fits (omega arith) (asked k true p) k.slots.1)
+          (λ p. drops s items closed x.context place line x.outer (op.JumpIfTrue goal) (v ∷ stack) m l k (omega arith) stack refl refl (omega arith) refl (asked k false p) k.slots.1)
+
   -- ---- operators
 
   pub binary_kept : (x : Around t) (p : Program) (o : BinOp) (site : ℕ) (v w : Value) → Gives t x (op.Binary o site) (w ∷ v ∷ []) (λ line. meaning.binary p o site line v w)

@@ -1,5 +1,5 @@
 -- Names of the module: what is stored, and what is unbound.
-use Rattle.std.proofs.Common.{◌≡◌, ℕ, suc, Option, Some, None, List, [], ◌∷◌, length, refl, sym, ap, subst, ◌∙◌, arith}
+use Rattle.std.proofs.Common.{◌≡◌, ◌==◌, ℕ, suc, Option, Some, None, List, [], ◌∷◌, length, refl, sym, ap, subst, ◌∙◌, arith, false}
 use Rattle.std.specs.List.{Contains}
 use Rattle.graph_walks.specs.Walks.{Walk, unasked}
 use Rattle.graph_walks.proofs.Lists.{first}
@@ -18,14 +18,14 @@ use Rattle.world_rules.specs.Items.{Item, world_of}
 use Rattle.world_rules.specs.Readings.{slot_below}
 use Rattle.world_rules.specs.Rules.{HasPlace, Stands as OpStands, it, IsClosed}
 use Rattle.world_rules.specs.Memories.{updated}
-use Rattle.world_rules.proofs.Extending.{assigns_on}
+use Rattle.world_rules.proofs.Extending.{assigns_on, passes_on}
 use Rattle.py_meaning.specs.Values.{Value, with_entry, without_entry}
 use Rattle.py_meaning.specs.Programs.{Program}
 use Rattle.py_meaning.specs.Names.{with_globals, changed_in_frame, bound, unbound}
 use Rattle.py_meaning.specs.Actions.{Memory, Scope, with_scope}
 use Rattle.world_covering.specs.Standing.{Stands}
 use Rattle.world_covering.specs.Keeping.{code_in, IsSeated, Kept, Pending}
-use Rattle.world_covering.proofs.Seats.{at_new, seats_beside, Stored, new, old, stored, left}
+use Rattle.world_covering.proofs.Seats.{at_new, seats_beside, seats_without, without, kept_without, Stored, new, old, stored, left, left_beside}
 use Rattle.world_covering.proofs.Steps.{op_stands, target_is, next_place}
 
 bound_here : (p : Program) (n : ℕ) (v : Value) (c : Scope) → c.frame ≡ None → bound p n v c ≡ with_globals (λ es. with_entry es n v) c
@@ -82,3 +82,27 @@ module _ (s : Source) (items : List Item) (p : Program) where
       seat i u (old a b) =
           let y : IsSeated k.shapes m.heap (global i) u = k.globals i u b in
           record { shape = y.shape; has = ap (λ z. Rattle.std.specs.Prelude.cond z (Some k.slots.0.shape) (k.shapes (global i))) a ∙ y.has; stands = y.stands }
+
+  -- a name is forgotten
+  pub forgets_name : IsClosed s items → (c : Context) (place line n : ℕ) (outer : Option Range) (stack : List Value) (m : Memory) → OpLies (code_in s c) place outer (op.ForgetName n) line → Kept s items c place stack m →
+      Kept s items c (suc place) stack (with_scope (unbound p n m.scope) m)
+  forgets_name closed c place line n outer stack m l k =
+      let depth : ℕ = length stack in
+      let o : Op = op.ForgetName n in
+      let st : OpStands s c place depth o = op_stands s items c place depth line outer o k.point l in
+      let e : depth_after o depth ≡ length stack = omega arith in
+      let next : HasPlace s c (suc place) (depth_after o depth) = next_place s items c place depth line outer o k.point l (omega arith) refl in
+      subst (λ z. Kept s items c (suc place) stack (with_scope z m)) (sym (unbound_here p n m.scope k.frame)) (record {
+        here = k.here;
+        context = k.context;
+        shapes = without k.shapes n;
+        walk = subst (λ d. Walk (world_of s items) (at c (suc place) d) (without k.shapes n)) e
+            (passes_on s items closed c place depth o k.shapes (without k.shapes n) k.context st k.walk refl refl next unasked (λ x t h. let w = kept_without k.shapes n x t h in (λ z. w.0 (sym (target_is s items c place depth o st) ∙ z), w.1)));
+        point = subst (λ d. HasPlace s c (suc place) d) e next;
+        slots = seats_without c k.shapes n m.heap stack k.slots;
+        globals = λ i u h. seat i u (left_beside m.scope.globals n i u h) (k.globals i u (left m.scope.globals n i u h));
+        frame = k.frame;
+      })
+    where
+      seat : (i : ℕ) (u : Value) → (n == i) ≡ false → IsSeated k.shapes m.heap (global i) u → IsSeated (without k.shapes n) m.heap (global i) u
+      seat i u q y = record { shape = y.shape; has = ap (λ b. Rattle.std.specs.Prelude.cond b None (k.shapes (global i))) q ∙ y.has; stands = y.stands }

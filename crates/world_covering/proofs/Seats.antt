@@ -2,7 +2,7 @@
 use Rattle.std.proofs.Common.{◌≡◌, ◌≢◌, ℕ, zero, suc, ◌<◌, ◌≤◌, Bool, true, false, ◌&&◌, ◌==◌, Some, None, List, [], ◌∷◌, ◌++◌, length, slice_get, refl, sym, ap, subst, ◌∙◌, arith, if◌then◌else◌}
 use Rattle.std.proofs.lemmas.Bool.Decides.{nat_tests}
 use Rattle.abstract_shapes.specs.Shapes.{Shape}
-use Rattle.world_rules.specs.Places.{Context, Variable, slot, global, slots_left, same_context}
+use Rattle.world_rules.specs.Places.{Context, Variable, slot, global, slots_left, same_context, same_variable}
 use Rattle.world_rules.specs.Memories.{updated}
 use Rattle.world_rules.proofs.Same.{variable_same}
 use Rattle.py_meaning.specs.Values.{Value, Entries, entry, with_entry, without_entry}
@@ -128,3 +128,28 @@ left (e ∷ es) n k u h = go (e.0 == n) refl h (left es n k u)
     go : (b : Bool) → (e.0 == n) ≡ b → entry (if b then without_entry es n else e ∷ without_entry es n) k ≡ Some u → (entry (without_entry es n) k ≡ Some u → entry es k ≡ Some u) → entry (e ∷ es) k ≡ Some u
     go true q h more = gone (e.0 == k) refl q h (more h)
     go false q h more = otherwise (e.0 == k) h more
+
+-- and is under another name
+pub left_beside : (es : Entries) (n k : ℕ) (u : Value) → entry (without_entry es n) k ≡ Some u → (n == k) ≡ false
+left_beside es n k u h = go (n == k) refl
+  where
+    go : (b : Bool) → (n == k) ≡ b → (n == k) ≡ false
+    go true q = absurd (never es n k u (is_number n k q) h)
+    go false q = q
+
+-- ---- a global that is forgotten
+
+abbrev pub without : Shapes → ℕ → Shapes
+without shapes n x = if same_variable (global n) x then None else shapes x
+
+pub seats_without : (c : Context) (shapes : Shapes) (n : ℕ) (heap : List Object) (stack : List Value) → AreSeated c shapes heap stack → AreSeated c (without shapes n) heap stack
+seats_without c shapes n heap [] a = tt
+seats_without c shapes n heap (v ∷ stack) a = (record { shape = a.0.shape; has = a.0.has; stands = a.0.stands }, seats_without c shapes n heap stack a.1)
+
+-- what is left is of other variables, and was there before
+pub kept_without : (shapes : Shapes) (n : ℕ) (x : Variable) (t : Shape) → without shapes n x ≡ Some t → (Some (global n) ≢ Some x) × (shapes x ≡ Some t)
+kept_without shapes n x t h = go (same_variable (global n) x) refl h
+  where
+    go : (b : Bool) → same_variable (global n) x ≡ b → (if b then None else shapes x) ≡ Some t → (Some (global n) ≢ Some x) × (shapes x ≡ Some t)
+    go true q h = cc
+    go false q h = (λ e. let z : same_variable (global n) x ≡ true = subst (λ y. same_variable (global n) y ≡ true) (some_same e) (variable_same (global n)) in cc, h)
