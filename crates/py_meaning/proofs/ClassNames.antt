@@ -163,7 +163,7 @@ class_defined p root id name parent ms own line m good apart =
     let n : Heap = m.heap ++ o ∷ [] in
     let place : ℕ = length m.heap in
     let c : Value = ref place in
-    let made : Good p root (with_new o m) = good_push {p = p} {root = root} {W = ⊥} m o good (grown_push m.heap o (λ e. absurd e)) tt (λ w. push_one m.heap o (good.classes w) (λ d i e f. apart w i (f ∙ sym e))) in
+    let made : Good p root (with_new o m) = good_push {p = p} {root = root} {W = ⊥} m o good (grown_push m.heap o (λ e. absurd e)) tt (λ v f e. absurd (cc)) (λ w. push_one m.heap o (good.classes w) (λ d i e f. apart w i (f ∙ sym e))) in
     let s : Stands n place id = record { within = here_within m.heap o; class = ap class_number (last_object m.heap o) } in
     let stored : Safe p n (Named place (bound_names ms)) (then_do (fill_class p ms c) (store p name c)) =
         safe_bind n (Named place (bound_names ms)) (Named place (bound_names ms)) (fill_class p ms c) (λ x. store p name c) (filled_named p place id ms n s) (λ x k le w.
@@ -237,7 +237,7 @@ classes_keep_their_names m stubs n choices calls before after c line s t body fi
         subst (λ r. HoldsAfter (pointing p []) (λ g u flow. Past p [] c after u) (Whole p []) r) own
         (runs_hold (pointing p []) (pointing_lasts p []) p (turn_holds p []) (λ g u flow. Past p [] c after u) (Whole p []) n (exec p x) tt s come.1 (past_class p [] c line after s.memory come.2.0 (come.2.1 refl))) in
     let root : Heap = t.memory.heap in
-    let good : Good p root t.memory = record { heap = past.2.0.heap; scope = past.2.0.scope; classes = past.2.0.classes; goes_on = grown_self root } in
+    let good : Good p root t.memory = record { heap = past.2.0.heap; scope = past.2.0.scope; rows = past.2.0.rows; classes = past.2.0.classes; goes_on = grown_self root } in
     let kept : Kept p root (run_of (carry_out turns (from_on p after calls) t)).heap =
         kept_after p root (carry_out turns (from_on p after calls) t)
         (runs_hold (pointing p root) (pointing_lasts p root) p (turn_holds p root) (Whole p root) (Whole p root) n (from_on p after calls) tt t past.1 (rest_holds p root after calls t.memory good past.2.1)) in

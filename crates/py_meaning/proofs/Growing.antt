@@ -12,7 +12,7 @@ use Rattle.py_meaning.specs.Objects.{Object, Filling, of_values, of_pairs, of_en
 use Rattle.py_meaning.specs.Programs.{Program, FunRow, fun_at}
 use Rattle.py_meaning.specs.ObjectLaws.{head}
 use Rattle.py_meaning.specs.ClassLaws.{class_number, class_entries, NumbersApart}
-use Rattle.py_meaning.specs.Receivers.{is_instance, is_instance_at}
+use Rattle.py_meaning.specs.Receivers.{is_raised}
 
 abbrev pub Heap : Type 0
 Heap = List Object
@@ -58,9 +58,9 @@ kind_of_head : (o : Object) → kind_of_object (head o) ≡ kind_of_object o
 kind_of_head (object.list site vs) = refl
 kind_of_head o = refl
 
-instance_of_head : (o : Object) → is_instance (head o) ≡ is_instance o
-instance_of_head (object.instance c es) = refl
-instance_of_head o = refl
+raised_of_head : (p : Program) (o : Object) → is_raised p (head o) ≡ is_raised p o
+raised_of_head p (object.instance c es) = refl
+raised_of_head p o = refl
 
 pub same_class : (o q : Object) → head q ≡ head o → class_number q ≡ class_number o
 same_class o q e = sym (class_of_head q) ∙ ap class_number e ∙ class_of_head o
@@ -68,8 +68,8 @@ same_class o q e = sym (class_of_head q) ∙ ap class_number e ∙ class_of_head
 pub same_kind : (o q : Object) → head q ≡ head o → kind_of_object q ≡ kind_of_object o
 same_kind o q e = sym (kind_of_head q) ∙ ap kind_of_object e ∙ kind_of_head o
 
-pub same_sort : (o q : Object) → head q ≡ head o → is_instance q ≡ is_instance o
-same_sort o q e = sym (instance_of_head q) ∙ ap is_instance e ∙ instance_of_head o
+pub same_sort : (p : Program) (o q : Object) → head q ≡ head o → is_raised p q ≡ is_raised p o
+same_sort p o q e = sym (raised_of_head p q) ∙ ap (is_raised p) e ∙ raised_of_head p o
 
 -- ---- fillings
 

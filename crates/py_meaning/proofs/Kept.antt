@@ -9,10 +9,10 @@ use Rattle.py_meaning.specs.Actions.{Frame, Scope, Memory, with_scope, with_new,
 use Rattle.py_meaning.specs.Programs.{Program}
 use Rattle.py_meaning.specs.Holds.{Account, Lasts, Post, Holds}
 use Rattle.py_meaning.specs.ClassLaws.{class_number, OneObjectAClass}
-use Rattle.py_meaning.specs.Receivers.{is_instance, is_instance_at}
+use Rattle.py_meaning.specs.Receivers.{is_raised, is_raised_at, HasItsRow}
 use Rattle.py_meaning.proofs.Holding.{holds_attempt}
 use Rattle.py_meaning.proofs.Growing.{Heap, ClassesApart, Block, Became, IsNew, Grows, loose, Grown, grown_self, grown_on, grown_push, grown_set, same_class, filled_values, filled_pairs, filled_instance, filled_class}
-use Rattle.py_meaning.proofs.Pointing.{IsWithin, AreWithin, EntriesWithin, PairsWithin, OptionWithin, ObjectWithin, ObjectsWithin, within_on, are_on, entries_on, pairs_on, option_on, object_on, objects_on, get_within, with_entry_within}
+use Rattle.py_meaning.proofs.Pointing.{RowFits, RowsFit, exact_row_on, rows_set, rows_push, IsWithin, AreWithin, EntriesWithin, PairsWithin, OptionWithin, ObjectWithin, ObjectsWithin, within_on, are_on, entries_on, pairs_on, option_on, object_on, objects_on, get_within, with_entry_within}
 
 -- ---- memory
 
@@ -35,6 +35,7 @@ scope_on n k c le h = record { globals = entries_on n k c.globals le h.globals; 
 pub record Good (p : Program) (root : Heap) (m : Memory) : Type 0 where
   pub heap : ObjectsWithin m.heap m.heap
   pub scope : ScopeWithin m.heap m.scope
+  pub rows : RowsFit p m.heap
   pub classes : ClassesApart p → OneObjectAClass m.heap
   -- it goes on from a heap that was there before
   pub goes_on : Grows ⊥ root m.heap
@@ -139,15 +140,25 @@ objects_push n (x ∷ xs) o h w = (h.0, objects_push n xs o h.1 w)
 -- what any action may make
 abbrev pub CanMake : Program → Heap → Object → Type 0
 CanMake p n (object.class c es) = EntriesWithin n es × (ClassesApart p → ⊥)
+CanMake p n (object.bound_foreign v f) = ObjectWithin n (object.bound_foreign v f) × HasItsRow p n v f
 CanMake p n o = ObjectWithin n o
 
 made_within : (p : Program) (n : Heap) (o : Object) → CanMake p n o → ObjectWithin n o
 made_within p n (object.class c es) h = h.0
+made_within p n (object.bound_foreign v f) h = h.0
 made_within p n o h = h
 
 made_new : (p : Program) (n : Heap) (o : Object) → CanMake p n o → IsNew (ClassesApart p) o
 made_new p n (object.class c es) h = λ c. absurd (h.1 c)
 made_new p n o h = λ c. refl
+
+made_row : {W : Type 0} (p : Program) (n k : Heap) (o : Object) → CanMake p n o → Grows W n k → RowFits p k o
+made_row p n k (object.bound_foreign v f) h le w g e =
+    let receiver : v ≡ w = grind (arith, e) in
+    let row : f ≡ g = grind (arith, e) in
+    subst (λ x. HasItsRow p k x g) receiver (subst (λ x. HasItsRow p k v x) row (exact_row_on p n k v f le h.0.0 h.1))
+made_row p n k (object.class c es) h le w g e = absurd (cc)
+made_row p n k o h le w g e = absurd (cc)
 
 pub push_at : (os : Heap) (o : Object) (i c : ℕ) → class_number (object_at (os ++ o ∷ []) i) ≡ Some c → (class_number (object_at os i) ≡ Some c) ⊎ ((i ≡ length os) × (class_number o ≡ Some c))
 push_at [] o zero c e = inr (refl, e)
@@ -169,8 +180,9 @@ push_one os o one apart c i j a b = meet (push_at os o i c a) (push_at os o j c 
     meet (inr x) (inl y) = absurd (apart c j x.1 y)
     meet (inr x) (inr y) = x.0 ∙ sym y.0
 
-pub good_push : {p : Program} {root : Heap} {W : Type 0} (m : Memory) (o : Object) → Good p root m → Grows W m.heap (m.heap ++ o ∷ []) → ObjectWithin m.heap o → (ClassesApart p → OneObjectAClass (m.heap ++ o ∷ [])) → Good p root (with_new o m)
-good_push m o good le h one = record {
+pub good_push : {p : Program} {root : Heap} {W : Type 0} (m : Memory) (o : Object) → Good p root m → Grows W m.heap (m.heap ++ o ∷ []) → ObjectWithin m.heap o → RowFits p (m.heap ++ o ∷ []) o → (ClassesApart p → OneObjectAClass (m.heap ++ o ∷ [])) → Good p root (with_new o m)
+good_push {p} m o good le h row one = record {
+  rows = rows_push p m.heap o le good.heap good.rows row;
   heap = objects_push (m.heap ++ o ∷ []) m.heap o (objects_on m.heap (m.heap ++ o ∷ []) m.heap le good.heap) (object_on m.heap (m.heap ++ o ∷ []) o le h);
   scope = scope_on m.heap (m.heap ++ o ∷ []) m.scope le good.scope;
   classes = one;
@@ -193,7 +205,7 @@ safe_allocate {p} n o h = record {
         tt,
         (
           grown_on low up,
-          good_push m o good up (object_on n m.heap o le (made_within p n o h)) (λ w. push_one m.heap o (good.classes w) (λ c i e f. some_none c (class_number o) (new w) e)),
+          good_push m o good up (object_on n m.heap o le (made_within p n o h)) (made_row p n (m.heap ++ o ∷ []) o h (grown_on le up)) (λ w. push_one m.heap o (good.classes w) (λ c i e f. some_none c (class_number o) (new w) e)),
           here_within m.heap o,
         ),
       );
@@ -254,6 +266,7 @@ refill_in {p} m place new good h same = λ base low.
         heap = objects_set (slice_set m.heap place o) m.heap place o (objects_on m.heap (slice_set m.heap place o) m.heap up good.heap) (object_on m.heap (slice_set m.heap place o) o up w);
         scope = scope_on m.heap (slice_set m.heap place o) m.scope up good.scope;
         goes_on = grown_on good.goes_on (grown_set m.heap place o same);
+        rows = rows_set p m.heap place o up good.heap good.rows;
         classes = λ c. set_one m.heap place o (same_class (object_at m.heap place) o same.same) (good.classes c);
       },
       tt,
@@ -269,11 +282,11 @@ pub safe_at : {p : Program} {A : Type 0} (n : Heap) (P : Heap → A → Type 0) 
 safe_at n P place f h = record { keeps = λ root m good le base low. (h (object_at m.heap place) m.heap le (object_within m place good)).keeps root m good (grown_self m.heap) base low }
 
 -- what is said of the value is said of its object
-abbrev pub IsAt : Heap → Value → Object → Type 0
-IsAt n v o = (kind_of n v ≡ kind_of_object o) × (is_instance_at n v ≡ is_instance o)
+abbrev pub IsAt : Program → Heap → Value → Object → Type 0
+IsAt p n v o = (kind_of n v ≡ kind_of_object o) × (is_raised_at p n v ≡ is_raised p o)
 
 pub safe_at_value : {p : Program} {A : Type 0} (n : Heap) (P : Heap → A → Type 0) (place : ℕ) (f : Object → Action A) →
-    ((o : Object) (k : Heap) → Grown p n k → ObjectWithin k o → IsAt k (ref place) o → Safe p k P (f o)) → Safe p n P (at_place place f)
+    ((o : Object) (k : Heap) → Grown p n k → ObjectWithin k o → IsAt p k (ref place) o → Safe p k P (f o)) → Safe p n P (at_place place f)
 safe_at_value n P place f h = record { keeps = λ root m good le base low. (h (object_at m.heap place) m.heap le (object_within m place good) (refl, refl)).keeps root m good (grown_self m.heap) base low }
 
 -- the object is still the same
@@ -293,7 +306,7 @@ enter_class m place c name es v good e h w =
 -- ---- the scope
 
 pub safe_changes : {p : Program} {A : Type 0} (n : Heap) (P : Heap → A → Type 0) (f : Scope → Scope) (a : Action A) → ((c : Scope) (k : Heap) → Grown p n k → ScopeWithin k c → ScopeWithin k (f c)) → Safe p n P a → Safe p n P (changes f a)
-safe_changes n P f a g h = record { keeps = λ root m good le base low. h.keeps root (with_scope (f m.scope) m) (record { heap = good.heap; scope = g m.scope m.heap le good.scope; classes = good.classes; goes_on = good.goes_on }) le base low }
+safe_changes n P f a g h = record { keeps = λ root m good le base low. h.keeps root (with_scope (f m.scope) m) (record { heap = good.heap; scope = g m.scope m.heap le good.scope; classes = good.classes; goes_on = good.goes_on; rows = good.rows }) le base low }
 
 pub safe_afterwards : {p : Program} {A : Type 0} (n : Heap) (P : Heap → A → Type 0) (a : Action A) (f : Scope → Scope) → ((k : Heap) (x : A) → P k x → Safe p k P (gives x)) → ((c : Scope) (k : Heap) → Grown p n k → ScopeWithin k c → ScopeWithin k (f c)) → Safe p n P a → Safe p n P (afterwards a f)
 safe_afterwards n P a f gv g h =

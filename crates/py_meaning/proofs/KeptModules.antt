@@ -20,7 +20,7 @@ use Rattle.py_meaning.specs.Receivers.{FitsReceiver, ReceiversFit}
 use Rattle.py_meaning.specs.ClassLaws.{class_number, class_id, LeavesNumber, NumbersApart, joined, OneObjectAClass, ClassesHaveOneObject}
 use Rattle.py_meaning.proofs.Holding.{holds_bind, holds_map, runs_hold}
 use Rattle.py_meaning.proofs.Growing.{Heap, ClassesApart, IsBlock, Grows, grown_self, grown_push, grown_class}
-use Rattle.py_meaning.proofs.Pointing.{IsWithin, ObjectWithin, ObjectsWithin, within_on}
+use Rattle.py_meaning.proofs.Pointing.{RowFits, RowsFit, within_at, IsWithin, ObjectWithin, ObjectsWithin, within_on}
 use Rattle.py_meaning.proofs.Kept.{pointing, pointing_lasts, Ended, Good, Safe, Free, FlowWithin, safe_then, object_within, push_at, push_one, good_push, here_within}
 use Rattle.py_meaning.proofs.KeptNatives.{store_safe}
 use Rattle.py_meaning.proofs.KeptStatements.{and_on_safe, define_function_safe, fill_class_safe, BlockKind, exec_kind_safe}
@@ -72,7 +72,7 @@ class_holds p root id name base ms own line m good apart =
     let o : Object = object.class id [] in
     let n : Heap = m.heap ++ o ∷ [] in
     let c : Value = ref (length m.heap) in
-    let made : Good p root (with_new o m) = good_push {p = p} {W = ⊥} m o good (grown_push m.heap o (λ e. absurd e)) tt (λ w. push_one m.heap o (good.classes w) (λ d i e f. apart w i (f ∙ sym e))) in
+    let made : Good p root (with_new o m) = good_push {p = p} {W = ⊥} m o good (grown_push m.heap o (λ e. absurd e)) tt (λ v f e. absurd (cc)) (λ w. push_one m.heap o (good.classes w) (λ d i e f. apart w i (f ∙ sym e))) in
     let filled : Safe p n FlowWithin (and_on (then_do (fill_class p ms c) (store p name c))) =
         and_on_safe n Free (then_do (fill_class p ms c) (store p name c)) (safe_then n Free Free (fill_class p ms c) (store p name c) (fill_class_safe p ms n c) (λ j le. store_safe p j name c (within_on n j c le (here_within m.heap o)))) in
     (tt, tt, filled.keeps root (with_new o m) made (grown_self n) n (grown_self n))
@@ -110,7 +110,7 @@ statements_hold p root (stmt (statement kind line) ss) more m good l =
 -- ---- the last heap of a run
 
 pub nothing_good : (p : Program) → Good p [] no_memory
-nothing_good p = record { heap = tt; scope = record { globals = tt; frame = tt; handled = tt }; classes = λ c number i j e f. absurd (grind (arith, e)); goes_on = grown_self [] }
+nothing_good p = record { heap = tt; scope = record { globals = tt; frame = tt; handled = tt }; classes = λ c number i j e f. absurd (grind (arith, e)); goes_on = grown_self []; rows = λ place v f e. absurd (cc) }
 
 nothing_yet : (ss : Stmts) → NoneYet [] ss
 nothing_yet no_stmts = tt
@@ -139,11 +139,12 @@ rest_holds p root ss calls m good l =
 -- what is kept of the last heap
 pub record Kept (p : Program) (root heap : Heap) : Type 0 where
   pub objects : ObjectsWithin heap heap
+  pub rows : RowsFit p heap
   pub classes : ClassesApart p → OneObjectAClass heap
   pub goes_on : Grows ⊥ root heap
 
 kept_of : (p : Program) (root : Heap) (m : Memory) → Good p root m → Kept p root m.heap
-kept_of p root m good = record { objects = good.heap; classes = good.classes; goes_on = good.goes_on }
+kept_of p root m good = record { objects = good.heap; rows = good.rows; classes = good.classes; goes_on = good.goes_on }
 
 pub kept_after : (p : Program) (root : Heap) (r : Answer (Unit {0})) → HoldsAfter (pointing p root) (Whole p root) (Whole p root) r → Kept p root (run_of r).heap
 kept_after p root (gave a s) h = kept_of p root s.memory h.2
@@ -178,19 +179,18 @@ references_point_in m stubs n choices calls = let heap = (run m stubs n choices 
 
 -- ---- receivers
 
-fits_object : (n : Heap) (o : Object) → ObjectWithin n o → FitsReceiver n o
-fits_object n (object.view site number receiver vs) h = h.2
-fits_object n (object.bound_foreign v f) h = h.1
-fits_object n (object.foreign f) h = h
-fits_object n o h = tt
-
-fits_at : (n : Heap) (os : List Object) (place : ℕ) → ObjectsWithin n os → FitsReceiver n (object_at os place)
-fits_at n [] place h = tt
-fits_at n (o ∷ os) zero h = fits_object n o h.0
-fits_at n (o ∷ os) (suc place) h = fits_at n os place h.1
+fits_object : (p : Program) (n : Heap) (o : Object) → ObjectWithin n o → RowFits p n o → FitsReceiver p n o
+fits_object p n (object.view site number receiver vs) h r = h.2
+fits_object p n (object.bound_foreign v f) h r = r v f refl
+fits_object p n (object.foreign f) h r = h
+fits_object p n o h r = tt
 
 pub receivers_fit : ReceiversFit
-receivers_fit m stubs n choices calls place = let heap = (run m stubs n choices calls).heap in fits_at heap heap place (last_heap m stubs n choices calls).objects
+receivers_fit m stubs n choices calls place =
+    let p : Program = program m stubs in
+    let heap : Heap = (run m stubs n choices calls).heap in
+    let kept : Kept p [] heap = last_heap m stubs n choices calls in
+    fits_object p heap (object_at heap place) (within_at heap heap place kept.objects) (kept.rows place)
 
 -- ---- classes
 

@@ -33,10 +33,10 @@ use Rattle.py_meaning.specs.Dicts.{pairs_added, add_pairs, add_two, is_outside_a
 use Rattle.py_meaning.specs.Natives.{values, word_pairs, call_by_texts, argument_or, gives_none, given_items, own_pairs, is_dict, given_pairs, receiver_pairs, keys_in, values_in, given, part_values, all_values, some_of, many, three, single, filled_from, new_dict, one_or_error, least_or_most, tells_class, part_value, some_value, outcome_value, same_place, entering, parts_added, add_parts, paired, effects_on, do_effects, inserts, take_part, pops, removes, clears, some_pair, gets, sets_default, pair_taken, given_or_error, pops_pair, updates, do_by_parts, do_deed, do_native, call_native}
 use Rattle.py_meaning.specs.Names.{found_or, native_value, builtin_value, global_value, value_in_frame, load, with_globals, with_locals, changed_in_frame, bound, store}
 use Rattle.py_meaning.specs.Actions.{Frame, Scope, Memory, Argument, Action, gives, counts, looks, bind, then_do, allocate, refill, anything, is_even, pick, one_of, raise_builtin, may_raise, fails, done}
-use Rattle.py_meaning.specs.Receivers.{IsMethodOf, IsFunction}
+use Rattle.py_meaning.specs.Receivers.{IsFunction}
 use Rattle.py_meaning.proofs.OwnViews.{ReceiverFits, view_fits, receiver_on}
 use Rattle.py_meaning.proofs.Growing.{Heap, Grown, grown_self, grown_on}
-use Rattle.py_meaning.proofs.Pointing.{method_on, AreWithin, EntriesWithin, IsWithin, ObjectWithin, OptionWithin, PairsWithin, are_append, are_on, entry_within, firsts_within, get_within, object_on, option_on, or_within, pairs_append, pairs_on, seconds_within, with_entry_within, within_on}
+use Rattle.py_meaning.proofs.Pointing.{MayBeMethodOf, method_on, AreWithin, EntriesWithin, IsWithin, ObjectWithin, OptionWithin, PairsWithin, are_append, are_on, entry_within, firsts_within, get_within, object_on, option_on, or_within, pairs_append, pairs_on, seconds_within, with_entry_within, within_on}
 use Rattle.py_meaning.proofs.Kept.{safe_known, safe_give, FrameWithin, ScopeWithin, Good, Safe, safe_changes, Free, ArgumentsWithin, safe_bind, safe_then, safe_takes, safe_counts, safe_looks, safe_if, safe_on, safe_allocate, safe_done, safe_values, safe_pairs, safe_at, object_within, safe_pick, safe_anything, safe_raise, safe_fails, safe_may, safe_option, safe_gives, safe_gives_all, safe_gives_pairs}
 use Rattle.py_meaning.proofs.KeptValues.{kind_safe, row_value_safe, ContentWithin, ContentPairsWithin, contents_within, contents_at_within, content_pairs_within, read_safe, read_all_safe, read_pairs_safe, StepWithin, element_safe, iterate_safe, items_safe}
 use Rattle.py_meaning.proofs.KeptParts.{part_safe, OnePairWithin, one_pair_within, decided_safe}
@@ -418,7 +418,7 @@ by_parts_safe p number x receiver as' site n a b c =
     safe_then n Free IsWithin (do_effects p receiver as' (effects_of x.deed)) (outcome_value p number x receiver as' site (outcome_of x.deed)) (effects_safe p n receiver as' (effects_of x.deed) b) (λ k le.
     outcome_safe p number x receiver as' site k (outcome_of x.deed) (option_on n k receiver le a) (arguments_on n k as' le b) (receiver_on n k receiver number le a c))
 
-deed_safe : (p : Program) (number : ℕ) (x : Native) (place : ℕ) (as' : List Argument) (site : ℕ) (n : Heap) (o : Object) (d : Deed) → IsWithin n (ref place) → ArgumentsWithin n as' → ObjectWithin n o → IsMethodOf n (ref place) number → Safe p n IsWithin (do_deed p number x place as' site o d)
+deed_safe : (p : Program) (number : ℕ) (x : Native) (place : ℕ) (as' : List Argument) (site : ℕ) (n : Heap) (o : Object) (d : Deed) → IsWithin n (ref place) → ArgumentsWithin n as' → ObjectWithin n o → MayBeMethodOf n (ref place) number → Safe p n IsWithin (do_deed p number x place as' site o d)
 deed_safe p number x place as' site n o (deed.ByParts es out) a b h c = by_parts_safe p number x (Some (ref place)) as' site n a b c
 deed_safe p number x place as' site n o deed.Inserts a b h c = inserts_safe place n (argument_or (values as') 1 none) o (argument_within n (values as') 1 none (values_within n as' b) tt) h
 deed_safe p number x place as' site n o deed.PopsPart a b h c = pops_safe p place n o h

@@ -1,6 +1,6 @@
 -- Subscripts, attributes and tests of classes keep values within the heap.
-use Rattle.std.proofs.Common.{ℕ, zero, suc, ◌≤◌, Bool, true, false, ◌==◌, if◌then◌else◌, List, [], ◌∷◌, length, Option, Some, None, slice_get, slice_set, ◌≡◌, ◌⊎◌, inl, inr, refl, ◌∙◌}
-use Rattle.std.specs.Prelude.{codes}
+use Rattle.std.proofs.Common.{ℕ, zero, suc, ◌≤◌, Bool, true, false, ◌==◌, if◌then◌else◌, List, [], ◌∷◌, length, Option, Some, None, slice_get, slice_set, ◌≡◌, ◌⊎◌, inl, inr, refl, ◌∙◌, ap}
+use Rattle.std.specs.Prelude.{codes, is_some}
 use Rattle.std.specs.Option.{option_and_then}
 use Rattle.builtin_stubs.specs.declared.basic.Basic.{Basic}
 use Rattle.builtin_stubs.specs.declared.basic.Basic.TheVariants as kind
@@ -29,11 +29,12 @@ use Rattle.py_meaning.specs.Attributes as attribute
 use Rattle.py_meaning.specs.Attributes.{lacks, is_init, members_if, members_of, look_up, bound_object, bound_to, base_init, native_attribute, kind_attribute, otherwise_of_instance, instance_attribute, class_attribute, item_value, module_attribute, member_value, after_bases, stub_attribute, foreign_attribute, outside_attribute, object_attribute, read_attribute, takes_attributes, store_attribute, after_class, first_binding, super_member, super_of_object, super_attribute}
 use Rattle.py_meaning.specs.ClassTests.{Test, yes_it_has, no_it_lacks, perhaps, decided, test_class, class_of_object, tuple_parts, some_part, part_test, may_match_with, may_match, tuple_test, object_test, matches_object, matches, may_pass}
 use Rattle.py_meaning.specs.Actions.{Memory, Action, gives, looks, bind, allocate, refill, anything, is_even, pick, one_of, raise_builtin, done}
-use Rattle.py_meaning.specs.Receivers.{is_instance_at, IsTakenAs, IsMethodOf}
+use Rattle.py_meaning.specs.Receivers.{is_raised_at, IsTakenAs, IsMethodOf}
 use Rattle.py_meaning.proofs.Growing.{Heap, Grown, grown_self, grown_on}
-use Rattle.py_meaning.proofs.Pointing.{sort_on, AreWithin, EntriesWithin, IsWithin, ObjectWithin, ObjectsWithin, OptionWithin, PairsWithin, are_on, entry_within, get_within, object_on, pairs_on, set_within, with_entry_within, within_on}
+use Rattle.py_meaning.proofs.Pointing.{sort_on, AreWithin, EntriesWithin, IsWithin, ObjectWithin, ObjectsWithin, OptionWithin, PairsWithin, are_on, entry_within, get_within, object_on, pairs_on, set_within, with_entry_within, within_on, loosely}
 use Rattle.py_meaning.proofs.Kept.{SafeIn, IsAt, safe_at_value, safe_at_now, enter_instance, enter_class, safe_known, safe_give, Good, Safe, Free, safe_bind, safe_takes, safe_looks, safe_if, safe_allocate, safe_done, safe_values, safe_pairs, safe_at, object_within, safe_pick, safe_anything, safe_raise, safe_fails, safe_tells, safe_may, safe_option, safe_found, safe_gives, safe_gives_all}
 use Rattle.py_meaning.proofs.KeptValues.{text_safe, octets_safe, kind_safe, row_value_safe, fresh_safe, ContentWithin, ContentsWithin, ContentPairsWithin, contents_on, contents_within, contents_at_within, content_pairs_within, read_safe, read_all_safe, StepWithin, iterate_safe, drain_safe}
+use Rattle.py_meaning.specs.Truth.{has_parts}
 
 -- ---- subscripts: what is read
 
@@ -233,28 +234,28 @@ sort_safe n sort.Value a b h k = h
 sort_safe n sort.Function a b h k = k
 sort_safe n _ a b h k = k
 
-native_attribute_safe : {p : Program} (n : Heap) (receiver : Value) (number : ℕ) (o : Option Native) → IsWithin n receiver → IsMethodOf n receiver number → Safe p n IsWithin (native_attribute receiver number o)
+native_attribute_safe : {p : Program} (n : Heap) (receiver : Value) (number : ℕ) (o : Option Native) → IsWithin n receiver → IsMethodOf p n receiver number → Safe p n IsWithin (native_attribute receiver number o)
 native_attribute_safe n receiver number None a b = safe_anything n
-native_attribute_safe n receiver number (Some x) a b = sort_safe n x.sort (value_of_row x) (allocate (object.bound_foreign receiver (builtin number))) (row_value_safe n x) (safe_allocate n _ (a, b))
+native_attribute_safe {p} n receiver number (Some x) a b = sort_safe n x.sort (value_of_row x) (allocate (object.bound_foreign receiver (builtin number))) (row_value_safe n x) (safe_allocate n _ ((a, loosely p n receiver number b), b))
 
-kind_attribute_safe : (p : Program) (line : ℕ) (n : Heap) (receiver : Value) (k : Basic) (holder : Holder) (name : ℕ) → IsWithin n receiver → IsTakenAs n receiver k → Safe p n IsWithin (kind_attribute p line receiver k holder name)
+kind_attribute_safe : (p : Program) (line : ℕ) (n : Heap) (receiver : Value) (k : Basic) (holder : Holder) (name : ℕ) → IsWithin n receiver → IsTakenAs p n receiver k → Safe p n IsWithin (kind_attribute p line receiver k holder name)
 kind_attribute_safe p line n receiver k holder name a t =
     safe_known n IsWithin (method_number k (text_at p name)) (λ i. native_attribute receiver i (slice_get natives i)) (lacks line holder name) (λ i e. native_attribute_safe n receiver i _ a (k, text_at p name, t, e)) (lacks_safe n IsWithin line holder name)
 
 init_or_lacks : (p : Program) (line : ℕ) (n : Heap) (holder : Holder) (name : ℕ) → Safe p n IsWithin (if is_init p name then base_init else lacks line holder name)
 init_or_lacks p line n holder name = safe_if n IsWithin (is_init p name) base_init (lacks line holder name) (base_init_safe n) (lacks_safe n IsWithin line holder name)
 
-otherwise_safe : (p : Program) (line : ℕ) (n : Heap) (receiver : Value) (c name : ℕ) (o : Option (List ℕ)) → IsWithin n receiver → is_instance_at n receiver ≡ true → Safe p n IsWithin (otherwise_of_instance p line receiver c name o)
+otherwise_safe : (p : Program) (line : ℕ) (n : Heap) (receiver : Value) (c name : ℕ) (o : Option (List ℕ)) → IsWithin n receiver → is_raised_at p n receiver ≡ is_some o → Safe p n IsWithin (otherwise_of_instance p line receiver c name o)
 otherwise_safe p line n receiver c name (Some base) a t =
     safe_known n IsWithin (method_number kind.Exception (text_at p name)) (λ i. native_attribute receiver i (slice_get natives i)) _ (λ i e. native_attribute_safe n receiver i _ a (kind.Exception, text_at p name, inr (refl, t), e)) (init_or_lacks p line n (on_instance c) name)
 otherwise_safe p line n receiver c name None a t = init_or_lacks p line n (on_instance c) name
 
-instance_attribute_safe : (p : Program) (line : ℕ) (n : Heap) (receiver : Value) (c : ℕ) (es : Entries) (name : ℕ) → IsWithin n receiver → EntriesWithin n es → is_instance_at n receiver ≡ true → Safe p n IsWithin (instance_attribute p line receiver c es name)
+instance_attribute_safe : (p : Program) (line : ℕ) (n : Heap) (receiver : Value) (c : ℕ) (es : Entries) (name : ℕ) → IsWithin n receiver → EntriesWithin n es → is_raised_at p n receiver ≡ is_some (exception_base p c) → Safe p n IsWithin (instance_attribute p line receiver c es name)
 instance_attribute_safe p line n receiver c es name a h t =
     safe_found n IsWithin (entry es name) gives (looks (λ m. elim (look_up m.heap (chain p c) name) [ Some v ↦ bound_to receiver v | None ↦ otherwise_of_instance p line receiver c name (exception_base p c) ]))
     (entry_within n es name h) (λ v w. safe_gives n v w)
     (safe_looks n IsWithin _ (λ root m good le. safe_found m.heap IsWithin (look_up m.heap (chain p c) name) (bound_to receiver) (otherwise_of_instance p line receiver c name (exception_base p c)) (look_up_within m.heap m.heap (chain p c) name good.heap)
-    (λ v w. bound_safe m.heap receiver v (within_on n m.heap receiver le a) w) (otherwise_safe p line m.heap receiver c name _ (within_on n m.heap receiver le a) (sort_on n m.heap receiver le a ∙ t))))
+    (λ v w. bound_safe m.heap receiver v (within_on n m.heap receiver le a) w) (otherwise_safe p line m.heap receiver c name _ (within_on n m.heap receiver le a) (sort_on p n m.heap receiver le a ∙ t))))
 
 class_attribute_safe : (p : Program) (line : ℕ) (n : Heap) (c name : ℕ) → Safe p n IsWithin (class_attribute p line c name)
 class_attribute_safe p line n c name =
@@ -272,15 +273,15 @@ module_attribute_safe p line n home name =
 
 member_value_safe : (p : Program) (n : Heap) (receiver : Value) (home name : List ℕ) (i : Item) → IsWithin n receiver → Safe p n IsWithin (member_value p receiver home name i)
 member_value_safe p n receiver home name (of_type t) a = fresh_safe p t n
-member_value_safe p n receiver home name (a_method c) a = safe_allocate n _ (a, tt)
+member_value_safe p n receiver home name (a_method c) a = safe_allocate n _ ((a, tt), tt)
 member_value_safe p n receiver home name a_function a = safe_anything n
 member_value_safe p n receiver home name a_class a = safe_anything n
 
-after_bases_safe : (p : Program) (line : ℕ) (n : Heap) (receiver : Value) (bs : List (List ℕ)) (name : ℕ) → IsWithin n receiver → is_instance_at n receiver ≡ true → Safe p n IsWithin (after_bases p line receiver bs name)
+after_bases_safe : (p : Program) (line : ℕ) (n : Heap) (receiver : Value) (bs : List (List ℕ)) (name : ℕ) → IsWithin n receiver → is_raised_at p n receiver ≡ has_parts bs → Safe p n IsWithin (after_bases p line receiver bs name)
 after_bases_safe p line n receiver [] name a t = lacks_safe n IsWithin line _ name
 after_bases_safe p line n receiver (b ∷ bs) name a t = kind_attribute_safe p line n receiver kind.Exception on_another name a (inr (refl, t))
 
-stub_attribute_safe : (p : Program) (line : ℕ) (n : Heap) (receiver : Value) (k : StubClass) (name : ℕ) → IsWithin n receiver → is_instance_at n receiver ≡ true → Safe p n IsWithin (stub_attribute p line receiver k name)
+stub_attribute_safe : (p : Program) (line : ℕ) (n : Heap) (receiver : Value) (k : StubClass) (name : ℕ) → IsWithin n receiver → is_raised_at p n receiver ≡ has_parts (exceptions_above (bases k)) → Safe p n IsWithin (stub_attribute p line receiver k name)
 stub_attribute_safe p line n receiver k name a t =
     safe_option n IsWithin (member_of k (text_at p name)) (member_value p receiver k.home (text_at p name)) (after_bases p line receiver (exceptions_above (bases k)) name) (λ i. member_value_safe p n receiver k.home (text_at p name) i a) (after_bases_safe p line n receiver _ name a t)
 
@@ -296,14 +297,14 @@ foreign_attribute_safe line n (stub_class home own) name = safe_anything n
 foreign_attribute_safe line n (stub_fun home own) name = lacks_safe n IsWithin line _ name
 foreign_attribute_safe line n (stub_method home c own) name = lacks_safe n IsWithin line _ name
 
-outside_attribute_safe : (p : Program) (line : ℕ) (n : Heap) (receiver : Value) (t : Term) (name : ℕ) → IsWithin n receiver → IsAt n receiver (object.outside t) → Safe p n IsWithin (outside_attribute p line receiver t name)
+outside_attribute_safe : (p : Program) (line : ℕ) (n : Heap) (receiver : Value) (t : Term) (name : ℕ) → IsWithin n receiver → IsAt p n receiver (object.outside t) → Safe p n IsWithin (outside_attribute p line receiver t name)
 outside_attribute_safe p line n receiver term.any name a e = safe_anything n
 outside_attribute_safe p line n receiver (term.class own) name a e =
     safe_if n IsWithin (is_instance_name own) _ _ (kind_attribute_safe p line n receiver (kind_of_instance own) on_another name a (inl e.0))
-    (safe_option n IsWithin (stub_class_at p own) (λ k. stub_attribute p line receiver k name) anything (λ k. stub_attribute_safe p line n receiver k name a e.1) (safe_anything n))
+    (safe_known n IsWithin (stub_class_at p own) (λ k. stub_attribute p line receiver k name) anything (λ k q. stub_attribute_safe p line n receiver k name a (e.1 ∙ ap (λ o. elim o [ None ↦ false | Some k ↦ has_parts (exceptions_above (bases k)) ]) q)) (safe_anything n))
 outside_attribute_safe p line n receiver t name a e = kind_attribute_safe p line n receiver (kind_of_term t) on_another name a (inl e.0)
 
-object_attribute_safe : (p : Program) (line : ℕ) (n : Heap) (v : Value) (name : ℕ) (o : Object) → IsWithin n v → ObjectWithin n o → IsAt n v o → Safe p n IsWithin (object_attribute p line v name o)
+object_attribute_safe : (p : Program) (line : ℕ) (n : Heap) (v : Value) (name : ℕ) (o : Object) → IsWithin n v → ObjectWithin n o → IsAt p n v o → Safe p n IsWithin (object_attribute p line v name o)
 object_attribute_safe p line n v name (object.instance c es) a h e = instance_attribute_safe p line n v c es name a h e.1
 object_attribute_safe p line n v name (object.class c es) a h e = class_attribute_safe p line n c name
 object_attribute_safe p line n v name (object.imported home) a h e = module_attribute_safe p line n home name

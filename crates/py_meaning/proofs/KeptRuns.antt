@@ -24,9 +24,9 @@ use Rattle.py_meaning.specs.Runs.{Answer, gave, raised, stopped, carry_out, scop
 use Rattle.py_meaning.specs.Holds.{Holds, HoldsAfter}
 use Rattle.py_meaning.specs.References.{ReferencesPointIn}
 use Rattle.py_meaning.proofs.Holding.{GaveInside, RaisedInside, left_by, holds_map, runs_hold}
-use Rattle.py_meaning.specs.Receivers.{HasItsRow, IsUnbound}
+use Rattle.py_meaning.specs.Receivers.{IsUnbound}
 use Rattle.py_meaning.proofs.Growing.{ClassesApart, Block, Grows, Heap, Grown, grown_self, grown_on}
-use Rattle.py_meaning.proofs.Pointing.{AreWithin, EntriesWithin, IsWithin, ObjectWithin, ObjectsWithin, OptionWithin, are_on, entries_on, get_within, option_on, within_on}
+use Rattle.py_meaning.proofs.Pointing.{MayHaveRow, AreWithin, EntriesWithin, IsWithin, ObjectWithin, ObjectsWithin, OptionWithin, are_on, entries_on, get_within, option_on, within_on}
 use Rattle.py_meaning.proofs.Kept.{safe_known, pointing, pointing_lasts, Ended, ScopeWithin, safe_changes, safe_give, frame_on, Good, Safe, Free, ArgumentsWithin, RequestWithin, FlowWithin, safe_bind, safe_then, safe_looks, safe_if, safe_allocate, safe_done, safe_at, safe_pick, safe_anything, safe_fails, safe_tells, safe_option, safe_gives}
 use Rattle.py_meaning.proofs.KeptValues.{fresh_safe}
 use Rattle.py_meaning.proofs.KeptNatives.{arguments_on, call_native_safe}
@@ -133,7 +133,7 @@ stub_method_safe p home owner name n as' line =
 -- what a function of another module is to its receiver
 abbrev ForeignFits : Heap → Option Value → Foreign → Type 0
 ForeignFits n None f = IsUnbound f
-ForeignFits n (Some v) f = HasItsRow n v f
+ForeignFits n (Some v) f = MayHaveRow n v f
 
 foreign_safe : (p : Program) (o : Option Value) (n : Heap) (as' : List Argument) (site line : ℕ) (f : Foreign) → OptionWithin n o → ArgumentsWithin n as' → ForeignFits n o f → Safe p n IsWithin (call_foreign p o as' site line f)
 foreign_safe p None n as' site line (builtin i) a b c = call_native_safe p i None as' site line n a b c
@@ -242,7 +242,7 @@ scope_after_within n k (while_turn test body) before c le h good = good
 scope_after_within n k (for_turn target body line v x) before c le h good = good
 
 left_good : {p : Program} {root : Heap} (q : Request) (m u : Memory) → Good p root m → Grown p m.heap u.heap → Good p root u → Good p root (left_by (pointing p root) q m u)
-left_good q m u good le h = record { heap = h.heap; scope = scope_after_within m.heap u.heap q m.scope u.scope le good.scope h.scope; classes = h.classes; goes_on = h.goes_on }
+left_good q m u good le h = record { heap = h.heap; scope = scope_after_within m.heap u.heap q m.scope u.scope le good.scope h.scope; classes = h.classes; goes_on = h.goes_on; rows = h.rows }
 
 pub turn_holds : (p : Program) (root : Heap) (q : Request) (way g : Unit {0}) (m : Memory) → Good p root m → RequestWithin p m.heap q → Holds (pointing p root) (GaveInside (pointing p root) q way g m) (RaisedInside (pointing p root) q way g m) g m (perform p q)
 turn_holds p root q way g m good w =

@@ -9,14 +9,14 @@ use Rattle.builtin_stubs.specs.Natives.{natives, function_natives, list_natives,
 use Rattle.py_meaning.specs.Values.{Value}
 use Rattle.py_meaning.specs.Programs.{Program}
 use Rattle.py_meaning.specs.Objects.{kind_of}
-use Rattle.py_meaning.specs.Receivers.{IsTakenAs, IsMethodOf, IsFunction, goes_through_own, IsDict, HasItsDict}
+use Rattle.py_meaning.specs.Receivers.{IsFunction, goes_through_own, IsDict, HasItsDict}
 use Rattle.py_meaning.proofs.Growing.{Heap, Grown}
-use Rattle.py_meaning.proofs.Pointing.{OptionWithin, method_on}
+use Rattle.py_meaning.proofs.Pointing.{MayBeTakenAs, MayBeMethodOf, OptionWithin, method_on}
 
 -- what a native that is called is to its receiver
 abbrev pub ReceiverFits : Heap → Option Value → ℕ → Type 0
 ReceiverFits n None number = IsFunction number
-ReceiverFits n (Some v) number = IsMethodOf n v number
+ReceiverFits n (Some v) number = MayBeMethodOf n v number
 
 pub receiver_on : {p : Program} (n k : Heap) (o : Option Value) (number : ℕ) → Grown p n k → OptionWithin n o → ReceiverFits n o number → ReceiverFits k o number
 receiver_on n k None number le h w = w
@@ -89,7 +89,7 @@ other_row : (b : Bool) → not b ≡ true → b ≡ true → ⊥
 other_row true e f = absurd (cc)
 other_row false e f = absurd (cc)
 
-method_fits : (n : Heap) (v : Value) (k : Basic) (name : List ℕ) (number : ℕ) (row : Native) → IsTakenAs n v k → method_number k name ≡ Some number → slice_get natives number ≡ Some row → goes_through_own (outcome_of row.deed) ≡ true → kind_of n v ≡ kind.Dict
+method_fits : (n : Heap) (v : Value) (k : Basic) (name : List ℕ) (number : ℕ) (row : Native) → MayBeTakenAs n v k → method_number k name ≡ Some number → slice_get natives number ≡ Some row → goes_through_own (outcome_of row.deed) ≡ true → kind_of n v ≡ kind.Dict
 method_fits n v kind.Dict name number row (inl e) found at own = e
 method_fits n v kind.Dict name number row (inr e) found at own = absurd (cc)
 method_fits n v k name number row t found at own = absurd (other_row (goes_through_own (outcome_of row.deed)) (method_others k name number row (λ e. absurd (cc)) found at) own)
