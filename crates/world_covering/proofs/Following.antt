@@ -91,12 +91,12 @@ module _ (m : Module) (stubs : List (List ℕ × Stub)) (settings : Settings) (i
 
   -- ---- names that are read
 
-  module _ (x : Around t) (place line n : ℕ) (stack : List Value) (mem : Memory) (lt : n < length m.names) (l : OpIn t x place (op.LoadName n) line) (k : Kept s items x.context place stack mem) where
+  module _ (x : Around t) (place line n : ℕ) (stack : List Value) (mem : Memory) (lt : n < length m.names) (l : OpIn t x place (op.LoadName n) line) (k : Kept s items x.context x.since place stack mem) where
     abbrev Loaded : Action Value → Type 0
     Loaded action = Holds (account t) (ValueAt t x (suc place) stack) (SentOver t x stack) tt mem action
 
-    sent : (later : Memory) → Stays mem later → Pending s items x.context x.outer stack later
-    sent later stays = pending_at s items x.context place line x.outer (op.LoadName n) [] stack mem later l refl k stays
+    sent : (later : Memory) → Stays mem later → Pending s items x.context x.since x.outer stack later
+    sent later stays = pending_at s items x.since x.context place line x.outer (op.LoadName n) [] stack mem later l refl k stays
 
     of_module : thread_of x.context ≡ Rattle.world_rules.specs.declared.seat.Thread.TheVariants.OfModule
     of_module = ap thread_of k.here
@@ -112,7 +112,7 @@ module _ (m : Module) (stubs : List (List ℕ × Stub)) (settings : Settings) (i
     loads_global b (Some v) e =
         let y : IsSeated k.shapes mem.heap (global n) v = k.globals n v e in
         let r : SeatReading = record { seats = own (seat.Global n) ∷ []; transfer = transfer.Copies } in
-        pushes s items closed x.context place line x.outer (op.LoadName n) stack mem l k (omega arith) stack mem v r (y.shape ∷ []) refl refl refl (omega arith) refl (subst (λ z. Contains z r) (sym (read_bound b)) (first r [])) (y.has, tt) k.slots
+        pushes s items x.since closed x.context place line x.outer (op.LoadName n) stack mem l k (omega arith) stack mem v r (y.shape ∷ []) refl refl refl (omega arith) refl (subst (λ z. Contains z r) (sym (read_bound b)) (first r [])) (y.has, tt) k.slots
         (gave (row_of transfer.Copies (y.shape ∷ [])) (y.shape ∷ []) mem v (yields.Read 0) y.shape (first (yields.Read 0) []) refl y.stands)
 
     loads_builtin : has_name s.scopes.bound n ≡ false → Loaded (builtin_value (text_at p n))
@@ -122,7 +122,7 @@ module _ (m : Module) (stubs : List (List ℕ × Stub)) (settings : Settings) (i
         let r : SeatReading = record { seats = []; transfer = rule } in
         subst (λ z. Loaded (builtin_value z)) (same_text m.names error_name n lt)
         (along s items no_name (λ e. ⊥) (λ h e told. absurd told) (λ g later u. Gave (row_of rule []) [] mem later u) (λ g later u. Stays mem later) (ValueAt t x (suc place) stack) (SentOver t x stack)
-        (λ later u gives. pushes s items closed x.context place line x.outer (op.LoadName n) stack mem l k (omega arith) stack later u r [] refl refl refl (omega arith) refl (subst (λ z. Contains z r) (sym (read_unbound b)) (first r [])) tt k.slots gives)
+        (λ later u gives. pushes s items x.since closed x.context place line x.outer (op.LoadName n) stack mem l k (omega arith) stack later u r [] refl refl refl (omega arith) refl (subst (λ z. Contains z r) (sym (read_unbound b)) (first r [])) tt k.slots gives)
         (λ later u stays. sent later stays) (builtin_value text) mem (rows_hold.unbound n text mem))
 
     loads_name : (b : Bool) → is_bound p n ≡ b → Loaded (if b then found_or (codes "NameError") (entry mem.scope.globals n) else builtin_value (text_at p n))
@@ -134,11 +134,11 @@ module _ (m : Module) (stubs : List (List ℕ × Stub)) (settings : Settings) (i
 
   -- ---- `raise` alone
 
-  raises_handled : (x : Around t) (place line : ℕ) (stack : List Value) (mem : Memory) → OpIn t x place op.Reraise line → Kept s items x.context place stack mem → (o : Option Value) →
+  raises_handled : (x : Around t) (place line : ℕ) (stack : List Value) (mem : Memory) → OpIn t x place op.Reraise line → Kept s items x.context x.since place stack mem → (o : Option Value) →
       Holds (account t) (λ g later flow. ⊥) (SentOver t x stack) tt mem (handled_or_error {A = Flow} o)
   raises_handled x place line stack mem l k None =
-      (tt, tt, pending_at s items x.context place line x.outer op.Reraise [] stack mem (with_new (object.outside (type.class (codes "RuntimeError"))) mem) l refl k (stays_new mem (object.outside (type.class (codes "RuntimeError")))))
-  raises_handled x place line stack mem l k (Some v) = pending_at s items x.context place line x.outer op.Reraise [] stack mem mem l refl k (stays_here mem)
+      (tt, tt, pending_at s items x.since x.context place line x.outer op.Reraise [] stack mem (with_new (object.outside (type.class (codes "RuntimeError"))) mem) l refl k (stays_new mem (object.outside (type.class (codes "RuntimeError")))))
+  raises_handled x place line stack mem l k (Some v) = pending_at s items x.since x.context place line x.outer op.Reraise [] stack mem mem l refl k (stays_here mem)
 
   -- ---- which instructions there are
 
@@ -167,9 +167,9 @@ module _ (m : Module) (stubs : List (List ℕ × Stub)) (settings : Settings) (i
     steps =
         record {
           always = λ x place stack g mem k. tt;
-          sinks = λ x stack u v g mem q. pending_under s items x.context x.outer u stack mem q;
+          sinks = λ x stack u v g mem q. pending_under s items x.since x.context x.outer u stack mem q;
           raises_any = λ x place line o stack g mem name l may k.
-              (tt, tt, pending_at s items x.context place line x.outer o [] stack mem (with_new (object.outside (type.class name)) mem) l may k (stays_new mem (object.outside (type.class name))));
+              (tt, tt, pending_at s items x.since x.context place line x.outer o [] stack mem (with_new (object.outside (type.class name)) mem) l may k (stays_new mem (object.outside (type.class name))));
           constant = λ x a place line stack g mem l k. constant_kept s items no_name closed x a place line stack mem l k;
           pops = λ x v place line stack g mem l k. pop_kept s items no_name closed x place line stack v mem l k;
           picks = λ x place line below stack v g mem l e k. copy_kept s items no_name closed x place line below stack v mem l e k;
@@ -181,10 +181,10 @@ module _ (m : Module) (stubs : List (List ℕ × Stub)) (settings : Settings) (i
           inverts = λ x v. not_kept s items no_name closed x v;
           next = λ x place line goal v stack g mem l k. absurd (built k.here l);
           loads = λ x n place line stack g mem l k. loads_here x place line n stack mem (built k.here l) l k;
-          stores = λ x place line n v stack g mem l k. stores_name s items p closed x.context place line n x.outer v stack mem l k;
-          forgets = λ x place line n stack g mem l k. forgets_name s items p closed x.context place line n x.outer stack mem l k;
-          still_at = λ x place n stack g mem k. kept_unbound s items p x.context place n stack mem k;
-          still_sent = λ x n stack v g mem q. pending_unbound s items p x.context x.outer n stack mem q;
+          stores = λ x place line n v stack g mem l k. stores_name s items x.since p closed x.context place line n x.outer v stack mem l k;
+          forgets = λ x place line n stack g mem l k. forgets_name s items x.since p closed x.context place line n x.outer stack mem l k;
+          still_at = λ x place n stack g mem k. kept_unbound s items x.since p x.context place n stack mem k;
+          still_sent = λ x n stack v g mem q. pending_unbound s items x.since p x.context x.outer n stack mem q;
           still_returned = λ x n v g mem r. r;
           does_unary = λ x o v. unary_kept s items no_name closed x o v;
           does_binary = λ x o site v w. binary_kept s items no_name closed x p o site v w;
@@ -210,9 +210,9 @@ module _ (m : Module) (stubs : List (List ℕ × Stub)) (settings : Settings) (i
           raises = λ x v place line stack g mem l k. absurd (built k.here l);
           raises_again = λ x place line stack g mem l k.
               holds_may_raise (account t) (λ g later flow. ⊥) (SentOver t x stack) (looks (λ z. handled_or_error {A = Flow} z.scope.handled)) tt mem tt
-              (λ name. (tt, tt, pending_at s items x.context place line x.outer op.Reraise [] stack mem (with_new (object.outside (type.class name)) mem) l refl k (stays_new mem (object.outside (type.class name)))))
+              (λ name. (tt, tt, pending_at s items x.since x.context place line x.outer op.Reraise [] stack mem (with_new (object.outside (type.class name)) mem) l refl k (stays_new mem (object.outside (type.class name)))))
               (raises_handled x place line stack mem l k mem.scope.handled);
-          lets_go = λ x place line v stack g mem l up k. pending_at s items x.context place line x.outer op.Reraise [] stack mem mem l refl k (stays_here mem);
+          lets_go = λ x place line v stack g mem l up k. pending_at s items x.since x.context place line x.outer op.Reraise [] stack mem mem l refl k (stays_here mem);
           catches = λ x range line stack v g mem e l q. absurd (built q.kept.here l);
           matches_class = λ x place line other goal c v stack g mem l jump k. absurd (built k.here l);
           loads_error = λ x place line stack g mem l k. let below : no_name < no_name = built k.here l in absurd (omega (arith, below));

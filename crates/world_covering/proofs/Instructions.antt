@@ -52,7 +52,7 @@ module _ (s : Source) (items : List Item) (error : ℕ) (closed : IsClosed s ite
   t = covering s items error
 
   abbrev At' : Around t → ℕ → List Value → Memory → Type 0
-  At' x place stack m = Kept s items x.context place stack m
+  At' x place stack m = Kept s items x.context x.since place stack m
 
   -- ---- two operands
 
@@ -67,10 +67,10 @@ module _ (s : Source) (items : List Item) (error : ℕ) (closed : IsClosed s ite
         let r : SeatReading = record { seats = slot_below (suc (suc d)) 1 ∷ slot_below (suc (suc d)) 0 ∷ []; transfer = rule } in
         let is : Contains (readings_at s x.context (suc (suc d)) o) r = subst (λ z. Contains z r) (sym (reads d)) (first r []) in
         let agree : Agree (variables x.context r.seats) shapes k.shapes = (k.slots.1.0.has, (k.slots.0.has, tt)) in
-        along s items error (IsFaultOf (row_of rule shapes) line) (λ h e told. subst (λ z. IsTold s items error h z) (sym told.told) (reported s items x.context place line x.outer o (w ∷ v ∷ stack) m r shapes told.found l k is agree told.has))
+        along s items error (IsFaultOf (row_of rule shapes) line) (λ h e told. subst (λ z. IsTold s items error h z) (sym told.told) (reported s items x.since x.context place line x.outer o (w ∷ v ∷ stack) m r shapes told.found l k is agree told.has))
         (λ g later u. Gave (row_of rule shapes) shapes m later u) (λ g later u. Stays m later) (ValueAt t x (suc place) stack) (SentOver t x stack)
-        (λ later u gives. pushes s items closed x.context place line x.outer o (w ∷ v ∷ stack) m l k (needs d) stack later u r shapes f n q (after d) (writes d) is agree k.slots.1.1 gives)
-        (λ later u stays. pending_at s items x.context place line x.outer o (w ∷ v ∷ []) stack m later l may k stays)
+        (λ later u gives. pushes s items x.since closed x.context place line x.outer o (w ∷ v ∷ stack) m l k (needs d) stack later u r shapes f n q (after d) (writes d) is agree k.slots.1.1 gives)
+        (λ later u stays. pending_at s items x.since x.context place line x.outer o (w ∷ v ∷ []) stack m later l may k stays)
         (action line) m (keeps line k.slots.1.0.shape k.slots.0.shape m k.slots.1.0.stands k.slots.0.stands)
 
   -- ---- one operand
@@ -86,10 +86,10 @@ module _ (s : Source) (items : List Item) (error : ℕ) (closed : IsClosed s ite
         let r : SeatReading = record { seats = slot_below (suc d) 0 ∷ []; transfer = rule } in
         let is : Contains (readings_at s x.context (suc d) o) r = subst (λ z. Contains z r) (sym (reads d)) (first r []) in
         let agree : Agree (variables x.context r.seats) shapes k.shapes = (k.slots.0.has, tt) in
-        along s items error (IsFaultOf (row_of rule shapes) line) (λ h e told. subst (λ z. IsTold s items error h z) (sym told.told) (reported s items x.context place line x.outer o (v ∷ stack) m r shapes told.found l k is agree told.has))
+        along s items error (IsFaultOf (row_of rule shapes) line) (λ h e told. subst (λ z. IsTold s items error h z) (sym told.told) (reported s items x.since x.context place line x.outer o (v ∷ stack) m r shapes told.found l k is agree told.has))
         (λ g later u. Gave (row_of rule shapes) shapes m later u) (λ g later u. Stays m later) (ValueAt t x (suc place) stack) (SentOver t x stack)
-        (λ later u gives. pushes s items closed x.context place line x.outer o (v ∷ stack) m l k (needs d) stack later u r shapes f n q (after d) (writes d) is agree k.slots.1 gives)
-        (λ later u stays. pending_at s items x.context place line x.outer o (v ∷ []) stack m later l may k stays)
+        (λ later u gives. pushes s items x.since closed x.context place line x.outer o (v ∷ stack) m l k (needs d) stack later u r shapes f n q (after d) (writes d) is agree k.slots.1 gives)
+        (λ later u stays. pending_at s items x.since x.context place line x.outer o (v ∷ []) stack m later l may k stays)
         (action line) m (keeps line k.slots.0.shape m k.slots.0.stands)
 
   -- ---- literals
@@ -112,7 +112,7 @@ module _ (s : Source) (items : List Item) (error : ℕ) (closed : IsClosed s ite
   constant_kept x a place line stack m l k =
       let made_of : LiteralStands m.heap a = literal_stands m.heap a in
       let r : SeatReading = record { seats = []; transfer = transfer.Makes (constant (kind_of a)) } in
-      pushes s items closed x.context place line x.outer (op.Const (kind_of a)) stack m l k (omega arith) stack m (literal_value a) r [] refl refl refl (omega arith) refl (first r []) tt k.slots
+      pushes s items x.since closed x.context place line x.outer (op.Const (kind_of a)) stack m l k (omega arith) stack m (literal_value a) r [] refl refl refl (omega arith) refl (first r []) tt k.slots
       (gave (row_of (transfer.Makes (constant (kind_of a))) []) [] m (literal_value a) (constant (kind_of a)) made_of.shape (first (constant (kind_of a)) []) made_of.is made_of.stands)
 
   -- ---- the stack alone
@@ -121,7 +121,7 @@ module _ (s : Source) (items : List Item) (error : ℕ) (closed : IsClosed s ite
   copy_kept x place line below stack v m l e k =
       let y : IsSeated k.shapes m.heap (slot x.context (Rattle.world_rules.specs.Places.slots_left (length stack) (suc below))) v = seat_of x.context k.shapes m.heap stack below v e k.slots in
       let r : SeatReading = record { seats = slot_below (length stack) below ∷ []; transfer = transfer.Copies } in
-      pushes s items closed x.context place line x.outer (op.Pick below) stack m l k (needs stack below v e) stack m v r (y.shape ∷ []) refl refl refl (omega arith) refl (first r []) (y.has, tt) k.slots
+      pushes s items x.since closed x.context place line x.outer (op.Pick below) stack m l k (needs stack below v e) stack m v r (y.shape ∷ []) refl refl refl (omega arith) refl (first r []) (y.has, tt) k.slots
       (gave (row_of transfer.Copies (y.shape ∷ [])) (y.shape ∷ []) m v (yields.Read 0) y.shape (first (yields.Read 0) []) refl y.stands)
     where
       needs : (stack : List Value) (below : ℕ) (v : Value) → slice_get stack below ≡ Some v → below + 1 ≤ length stack
@@ -131,14 +131,14 @@ module _ (s : Source) (items : List Item) (error : ℕ) (closed : IsClosed s ite
 
   pub pop_kept : (x : Around t) (place line : ℕ) (stack : List Value) (v : Value) (m : Memory) → OpIn t x place op.Pop line → At' x place (v ∷ stack) m → At' x (suc place) stack m
   pop_kept x place line stack v m l k =
-      drops s items closed x.context place line x.outer op.Pop (v ∷ stack) m l k (omega arith) stack refl refl (omega arith) refl unasked k.slots.1
+      drops s items x.since closed x.context place line x.outer op.Pop (v ∷ stack) m l k (omega arith) stack refl refl (omega arith) refl unasked k.slots.1
 
   -- ---- jumps and tests
 
   module _ (x : Around t) (place line goal : ℕ) (stack : List Value) (m : Memory) (fits : goal < length (code_in s x.context).ops) where
     pub jump_kept : OpIn t x place (op.Jump goal) line → At' x place stack m → At' x goal stack m
     jump_kept l k =
-        leaps s items closed x.context place line x.outer (op.Jump goal) stack m l k (omega arith) stack (record { goal = goal; on_jump = None; on_fall = None }) refl fits (omega arith) unasked k.slots
+        leaps s items x.since closed x.context place line x.outer (op.Jump goal) stack m l k (omega arith) stack (record { goal = goal; on_jump = None; on_fall = None }) refl fits (omega arith) unasked k.slots
 
     module _ (v : Value) where
       -- the test of the top lets its shape pass
@@ -160,26 +160,26 @@ module _ (s : Source) (items : List Item) (error : ℕ) (closed : IsClosed s ite
       pub false_leaves : OpIn t x place (op.JumpIfFalse goal) line → At' x place (v ∷ stack) m → Holds (account t) (ChoiceAt t x (suc place) goal stack stack) (SentOver t x stack) tt m (truth_of v)
       false_leaves l k =
           choice (op.JumpIfFalse goal) (suc place) goal stack stack k
-          (λ p. drops s items closed x.context place line x.outer (op.JumpIfFalse goal) (v ∷ stack) m l k (omega arith) stack refl refl (omega arith) refl (asked k true p) k.slots.1)
-          (λ p. leaps s items closed x.context place line x.outer (op.JumpIfFalse goal) (v ∷ stack) m l k (omega arith) stack (record { goal = goal; on_jump = Some MayBeFalse; on_fall = Some MayBeTrue }) refl fits (omega arith) (asked k false p) k.slots.1)
+          (λ p. drops s items x.since closed x.context place line x.outer (op.JumpIfFalse goal) (v ∷ stack) m l k (omega arith) stack refl refl (omega arith) refl (asked k true p) k.slots.1)
+          (λ p. leaps s items x.since closed x.context place line x.outer (op.JumpIfFalse goal) (v ∷ stack) m l k (omega arith) stack (record { goal = goal; on_jump = Some MayBeFalse; on_fall = Some MayBeTrue }) refl fits (omega arith) (asked k false p) k.slots.1)
 
       pub false_keeps : OpIn t x place (op.JumpIfFalseKeep goal) line → At' x place (v ∷ stack) m → Holds (account t) (ChoiceAt t x (suc place) goal stack (v ∷ stack)) (SentOver t x stack) tt m (truth_of v)
       false_keeps l k =
           choice (op.JumpIfFalseKeep goal) (suc place) goal stack (v ∷ stack) k
-          (λ p. drops s items closed x.context place line x.outer (op.JumpIfFalseKeep goal) (v ∷ stack) m l k (omega arith) stack refl refl (omega arith) refl (asked k true p) k.slots.1)
-          (λ p. leaps s items closed x.context place line x.outer (op.JumpIfFalseKeep goal) (v ∷ stack) m l k (omega arith) (v ∷ stack) (record { goal = goal; on_jump = Some MayBeFalse; on_fall = Some MayBeTrue }) refl fits (omega arith) (asked k false p) k.slots)
+          (λ p. drops s items x.since closed x.context place line x.outer (op.JumpIfFalseKeep goal) (v ∷ stack) m l k (omega arith) stack refl refl (omega arith) refl (asked k true p) k.slots.1)
+          (λ p. leaps s items x.since closed x.context place line x.outer (op.JumpIfFalseKeep goal) (v ∷ stack) m l k (omega arith) (v ∷ stack) (record { goal = goal; on_jump = Some MayBeFalse; on_fall = Some MayBeTrue }) refl fits (omega arith) (asked k false p) k.slots)
 
       pub true_keeps : OpIn t x place (op.JumpIfTrueKeep goal) line → At' x place (v ∷ stack) m → Holds (account t) (ChoiceAt t x goal (suc place) (v ∷ stack) stack) (SentOver t x stack) tt m (truth_of v)
       true_keeps l k =
           choice (op.JumpIfTrueKeep goal) goal (suc place) (v ∷ stack) stack k
-          (λ p. leaps s items closed x.context place line x.outer (op.JumpIfTrueKeep goal) (v ∷ stack) m l k (omega arith) (v ∷ stack) (record { goal = goal; on_jump = Some MayBeTrue; on_fall = Some MayBeFalse }) refl fits (omega arith) (asked k true p) k.slots)
-          (λ p. drops s items closed x.context place line x.outer (op.JumpIfTrueKeep goal) (v ∷ stack) m l k (omega arith) stack refl refl (omega arith) refl (asked k false p) k.slots.1)
+          (λ p. leaps s items x.since closed x.context place line x.outer (op.JumpIfTrueKeep goal) (v ∷ stack) m l k (omega arith) (v ∷ stack) (record { goal = goal; on_jump = Some MayBeTrue; on_fall = Some MayBeFalse }) refl fits (omega arith) (asked k true p) k.slots)
+          (λ p. drops s items x.since closed x.context place line x.outer (op.JumpIfTrueKeep goal) (v ∷ stack) m l k (omega arith) stack refl refl (omega arith) refl (asked k false p) k.slots.1)
 
       pub true_leaves : OpIn t x place (op.JumpIfTrue goal) line → At' x place (v ∷ stack) m → Holds (account t) (ChoiceAt t x goal (suc place) stack stack) (SentOver t x stack) tt m (truth_of v)
       true_leaves l k =
           choice (op.JumpIfTrue goal) goal (suc place) stack stack k
-          (λ p. leaps s items closed x.context place line x.outer (op.JumpIfTrue goal) (v ∷ stack) m l k (omega arith) stack (record { goal = goal; on_jump = Some MayBeTrue; on_fall = Some MayBeFalse }) refl fits (omega arith) (asked k true p) k.slots.1)
-          (λ p. drops s items closed x.context place line x.outer (op.JumpIfTrue goal) (v ∷ stack) m l k (omega arith) stack refl refl (omega arith) refl (asked k false p) k.slots.1)
+          (λ p. leaps s items x.since closed x.context place line x.outer (op.JumpIfTrue goal) (v ∷ stack) m l k (omega arith) stack (record { goal = goal; on_jump = Some MayBeTrue; on_fall = Some MayBeFalse }) refl fits (omega arith) (asked k true p) k.slots.1)
+          (λ p. drops s items x.since closed x.context place line x.outer (op.JumpIfTrue goal) (v ∷ stack) m l k (omega arith) stack refl refl (omega arith) refl (asked k false p) k.slots.1)
 
   -- ---- operators
 
@@ -205,5 +205,5 @@ module _ (s : Source) (items : List Item) (error : ℕ) (closed : IsClosed s ite
       let r : SeatReading = record { seats = slot_below (suc (length stack)) 0 ∷ []; transfer = transfer.Negates } in
       along s items error (λ e. ⊥) (λ h e told. absurd told)
       (λ g later u. Gave (row_of transfer.Negates shapes) shapes m later u) (λ g later u. ⊥) (ValueAt t x (suc place) stack) (SentOver t x stack)
-      (λ later u gives. pushes s items closed x.context place line x.outer op.Not (v ∷ stack) m l k (omega arith) stack later u r shapes refl refl refl (omega arith) refl (first r []) (k.slots.0.has, tt) k.slots.1 gives)
+      (λ later u gives. pushes s items x.since closed x.context place line x.outer op.Not (v ∷ stack) m l k (omega arith) stack later u r shapes refl refl refl (omega arith) refl (first r []) (k.slots.0.has, tt) k.slots.1 gives)
       (λ later u never. absurd never) (bind (truth_of v) (λ b. gives (truth (not b)))) m (rows_hold.inverts v k.slots.0.shape m k.slots.0.stands)

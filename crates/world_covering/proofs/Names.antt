@@ -12,7 +12,7 @@ use Rattle.tree_code.specs.Standing.{OpLies}
 use Rattle.world_rules.specs.declared.row.Yield.TheVariants as yields
 use Rattle.world_rules.specs.declared.transfer.SeatReading.{SeatReading}
 use Rattle.world_rules.specs.declared.transfer.Transfer.TheVariants as transfer
-use Rattle.world_rules.specs.Places.{Context, global, at}
+use Rattle.world_rules.specs.Places.{Context, main, global, at}
 use Rattle.world_rules.specs.Sources.{Source}
 use Rattle.world_rules.specs.Items.{Item, world_of}
 use Rattle.world_rules.specs.Readings.{slot_below}
@@ -24,9 +24,9 @@ use Rattle.py_meaning.specs.Programs.{Program}
 use Rattle.py_meaning.specs.Names.{with_globals, changed_in_frame, bound, unbound}
 use Rattle.py_meaning.specs.Actions.{Memory, Scope, with_scope}
 use Rattle.world_covering.specs.Standing.{Stands}
-use Rattle.world_covering.specs.Keeping.{code_in, IsSeated, Kept, Pending}
-use Rattle.world_covering.proofs.Seats.{at_new, seats_beside, seats_without, without, kept_without, Stored, new, old, stored, left, left_beside}
-use Rattle.world_covering.proofs.Steps.{op_stands, target_is, next_place}
+use Rattle.world_covering.specs.Keeping.{code_in, IsSeated, Kept, Pending, IsWithin, itself, owner_of, Entry}
+use Rattle.world_covering.proofs.Seats.{at_new, seats_beside, seats_without, without, kept_without, beside_without, Stored, new, old, stored, left, left_beside}
+use Rattle.world_covering.proofs.Steps.{others_updated, op_stands, target_is, next_place}
 
 bound_here : (p : Program) (n : ℕ) (v : Value) (c : Scope) → c.frame ≡ None → bound p n v c ≡ with_globals (λ es. with_entry es n v) c
 bound_here p n v c e = ap (λ f. changed_in_frame p n (λ es. with_entry es n v) f c) e
@@ -34,11 +34,11 @@ bound_here p n v c e = ap (λ f. changed_in_frame p n (λ es. with_entry es n v)
 unbound_here : (p : Program) (n : ℕ) (c : Scope) → c.frame ≡ None → unbound p n c ≡ with_globals (λ es. without_entry es n) c
 unbound_here p n c e = ap (λ f. changed_in_frame p n (λ es. without_entry es n) f c) e
 
-module _ (s : Source) (items : List Item) (p : Program) where
+module _ (s : Source) (items : List Item) (entered : Entry) (p : Program) where
   -- a walk that is kept goes on to be, where a name is unbound
-  pub kept_unbound : (c : Context) (place n : ℕ) (stack : List Value) (m : Memory) → Kept s items c place stack m → Kept s items c place stack (with_scope (unbound p n m.scope) m)
+  pub kept_unbound : (c : Context) (place n : ℕ) (stack : List Value) (m : Memory) → Kept s items c entered place stack m → Kept s items c entered place stack (with_scope (unbound p n m.scope) m)
   kept_unbound c place n stack m k =
-      subst (λ z. Kept s items c place stack (with_scope z m)) (sym (unbound_here p n m.scope k.frame)) (record {
+      subst (λ z. Kept s items c entered place stack (with_scope z m)) (sym (unbound_here p n m.scope k.frame)) (record {
         here = k.here;
         context = k.context;
         shapes = k.shapes;
@@ -46,16 +46,17 @@ module _ (s : Source) (items : List Item) (p : Program) where
         point = k.point;
         slots = k.slots;
         globals = λ i u e. k.globals i u (left m.scope.globals n i u e);
+        leaves = record { others = k.leaves.others; globals = λ apart. absurd (apart k.here); heap = k.leaves.heap };
         frame = k.frame;
       })
 
-  pub pending_unbound : (c : Context) (outer : Option Range) (n : ℕ) (stack : List Value) (m : Memory) → Pending s items c outer stack m → Pending s items c outer stack (with_scope (unbound p n m.scope) m)
+  pub pending_unbound : (c : Context) (outer : Option Range) (n : ℕ) (stack : List Value) (m : Memory) → Pending s items c entered outer stack m → Pending s items c entered outer stack (with_scope (unbound p n m.scope) m)
   pending_unbound c outer n stack m q =
       record { place = q.place; above = q.above; op = q.op; kept = kept_unbound c q.place n _ m q.kept; stands = q.stands; may = q.may; goes_to = q.goes_to }
 
   -- the value on the top goes into a name
-  pub stores_name : IsClosed s items → (c : Context) (place line n : ℕ) (outer : Option Range) (v : Value) (stack : List Value) (m : Memory) → OpLies (code_in s c) place outer (op.StoreName n) line → Kept s items c place (v ∷ stack) m →
-      Kept s items c (suc place) stack (with_scope (bound p n v m.scope) m)
+  pub stores_name : IsClosed s items → (c : Context) (place line n : ℕ) (outer : Option Range) (v : Value) (stack : List Value) (m : Memory) → OpLies (code_in s c) place outer (op.StoreName n) line → Kept s items c entered place (v ∷ stack) m →
+      Kept s items c entered (suc place) stack (with_scope (bound p n v m.scope) m)
   stores_name closed c place line n outer v stack m l k =
       let depth : ℕ = suc (length stack) in
       let o : Op = op.StoreName n in
@@ -64,7 +65,7 @@ module _ (s : Source) (items : List Item) (p : Program) where
       let next : HasPlace s c (suc place) (depth_after o depth) = next_place s items c place depth line outer o k.point l (omega arith) refl in
       let r : SeatReading = record { seats = slot_below depth 0 ∷ []; transfer = transfer.Stores n } in
       let t : Shape = k.slots.0.shape in
-      subst (λ z. Kept s items c (suc place) stack (with_scope z m)) (sym (bound_here p n v m.scope k.frame)) (record {
+      subst (λ z. Kept s items c entered (suc place) stack (with_scope z m)) (sym (bound_here p n v m.scope k.frame)) (record {
         here = k.here;
         context = k.context;
         shapes = updated k.shapes (global n) t;
@@ -73,6 +74,7 @@ module _ (s : Source) (items : List Item) (p : Program) where
         point = subst (λ d. HasPlace s c (suc place) d) e next;
         slots = seats_beside c k.shapes n t m.heap stack k.slots.1;
         globals = λ i u y. seat i u (stored m.scope.globals n i v u y);
+        leaves = record { others = others_updated c entered k.shapes (global n) t (subst (λ z. IsWithin z main) (sym k.here) itself) k.leaves.others; globals = λ apart. absurd (apart k.here); heap = k.leaves.heap };
         frame = k.frame;
       })
     where
@@ -84,15 +86,15 @@ module _ (s : Source) (items : List Item) (p : Program) where
           record { shape = y.shape; has = ap (λ z. Rattle.std.specs.Prelude.cond z (Some k.slots.0.shape) (k.shapes (global i))) a ∙ y.has; stands = y.stands }
 
   -- a name is forgotten
-  pub forgets_name : IsClosed s items → (c : Context) (place line n : ℕ) (outer : Option Range) (stack : List Value) (m : Memory) → OpLies (code_in s c) place outer (op.ForgetName n) line → Kept s items c place stack m →
-      Kept s items c (suc place) stack (with_scope (unbound p n m.scope) m)
+  pub forgets_name : IsClosed s items → (c : Context) (place line n : ℕ) (outer : Option Range) (stack : List Value) (m : Memory) → OpLies (code_in s c) place outer (op.ForgetName n) line → Kept s items c entered place stack m →
+      Kept s items c entered (suc place) stack (with_scope (unbound p n m.scope) m)
   forgets_name closed c place line n outer stack m l k =
       let depth : ℕ = length stack in
       let o : Op = op.ForgetName n in
       let st : OpStands s c place depth o = op_stands s items c place depth line outer o k.point l in
       let e : depth_after o depth ≡ length stack = omega arith in
       let next : HasPlace s c (suc place) (depth_after o depth) = next_place s items c place depth line outer o k.point l (omega arith) refl in
-      subst (λ z. Kept s items c (suc place) stack (with_scope z m)) (sym (unbound_here p n m.scope k.frame)) (record {
+      subst (λ z. Kept s items c entered (suc place) stack (with_scope z m)) (sym (unbound_here p n m.scope k.frame)) (record {
         here = k.here;
         context = k.context;
         shapes = without k.shapes n;
@@ -101,6 +103,7 @@ module _ (s : Source) (items : List Item) (p : Program) where
         point = subst (λ d. HasPlace s c (suc place) d) e next;
         slots = seats_without c k.shapes n m.heap stack k.slots;
         globals = λ i u h. seat i u (left_beside m.scope.globals n i u h) (k.globals i u (left m.scope.globals n i u h));
+        leaves = record { others = λ x apart. beside_without k.shapes n x (λ z. apart (subst (λ y. IsWithin c (owner_of y)) z (subst (λ y. IsWithin y main) (sym k.here) itself))) ∙ k.leaves.others x apart; globals = λ apart. absurd (apart k.here); heap = k.leaves.heap };
         frame = k.frame;
       })
     where

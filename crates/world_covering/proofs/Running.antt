@@ -38,10 +38,11 @@ use Rattle.tree_covering.proofs.OnlyOps.{OnlyOps}
 use Rattle.tree_covering.proofs.Statements.{body_goes}
 use Rattle.world_covering.specs.Forms.{IsPlainBody}
 use Rattle.world_covering.specs.Modules.{Settings, source_of}
-use Rattle.world_covering.specs.Keeping.{IsSeated, Kept}
+use Rattle.world_covering.specs.Keeping.{IsSeated, Entry, Kept}
 use Rattle.world_covering.specs.Covering.{IsEnding}
 use Rattle.world_covering.proofs.Built.{IsBuilt, same_body}
 use Rattle.world_covering.proofs.Following.{s, p, error, t, steps}
+use Rattle.world_covering.proofs.Growing.{grows_self}
 use Rattle.world_covering.proofs.Trails.{IsTold, lasts}
 
 both : (a b : Bool) → a ≡ true → b ≡ true → IsTrue (a && b)
@@ -62,8 +63,12 @@ module _ (m : Module) (stubs : List (List ℕ × Stub)) (settings : Settings) (i
   abbrev error_number : ℕ
   error_number = error m stubs settings items closed
 
+  -- the module begins with nothing
+  abbrev at_start : Entry
+  at_start = record { heap = []; globals = []; shapes = nothing }
+
   abbrev top : Around trail
-  top = record { context = main; since = tt; labels = no_loop; outer = None }
+  top = record { context = main; since = at_start; labels = no_loop; outer = None }
 
   abbrev piece : Piece
   piece = body_code (in_module (length m.names)) m.body
@@ -82,7 +87,7 @@ module _ (m : Module) (stubs : List (List ℕ × Stub)) (settings : Settings) (i
   main_there : Contains items (a_context main)
   main_there = closed.has _ of_module
 
-  begun : Kept (s m stubs settings items closed) items main 0 [] no_memory
+  begun : Kept (s m stubs settings items closed) items main at_start 0 [] no_memory
   begun =
       record {
         here = refl;
@@ -92,6 +97,7 @@ module _ (m : Module) (stubs : List (List ℕ × Stub)) (settings : Settings) (i
         point = record { code = module_code error_number m.body; of = refl; has_depth = begins (omega (arith, lies.fits)) };
         slots = tt;
         globals = λ n v e. cc;
+        leaves = record { others = λ x apart. refl; globals = λ apart. refl; heap = grows_self [] };
         frame = refl;
       }
 
@@ -103,7 +109,7 @@ module _ (m : Module) (stubs : List (List ℕ × Stub)) (settings : Settings) (i
   abbrev Left : Unit {0} → Memory → Value → Type 0
   Left = SentOver trail top []
 
-  ending : (n : ℕ) (v : Value) (mem : Memory) → Kept (s m stubs settings items closed) items main piece.size [] mem → entry mem.scope.globals n ≡ Some v → IsEnding (s m stubs settings items closed) items mem.heap n v
+  ending : (n : ℕ) (v : Value) (mem : Memory) → Kept (s m stubs settings items closed) items main at_start piece.size [] mem → entry mem.scope.globals n ≡ Some v → IsEnding (s m stubs settings items closed) items mem.heap n v
   ending n v mem k e =
       let y : IsSeated k.shapes mem.heap (global n) v = k.globals n v e in
       let seen : Visible (world_of (s m stubs settings items closed) items) (at main piece.size 0) (Rattle.world_rules.specs.Items.map_of (global n ∷ []) (y.shape ∷ [])) =
@@ -120,10 +126,10 @@ module _ (m : Module) (stubs : List (List ℕ × Stub)) (settings : Settings) (i
         stands = y.stands;
       }
     where
-      begun_depth : Kept (s m stubs settings items closed) items main piece.size [] mem → HasDepth (module_code error_number m.body) piece.size 0
+      begun_depth : Kept (s m stubs settings items closed) items main at_start piece.size [] mem → HasDepth (module_code error_number m.body) piece.size 0
       begun_depth k = let same : k.point.code ≡ module_code error_number m.body = Rattle.world_covering.proofs.Seats.some_same (sym k.point.of) in subst (λ z. HasDepth z piece.size 0) same k.point.has_depth
 
-  names_go : (names : List ℕ) (mem : Memory) → Kept (s m stubs settings items closed) items main piece.size [] mem → Holds (account trail) Ended Left tt mem (tell_names names)
+  names_go : (names : List ℕ) (mem : Memory) → Kept (s m stubs settings items closed) items main at_start piece.size [] mem → Holds (account trail) Ended Left tt mem (tell_names names)
   names_go [] mem k = k
   names_go (n ∷ names) mem k = one (entry mem.scope.globals n) refl (names_go names mem k)
     where

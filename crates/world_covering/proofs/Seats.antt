@@ -4,7 +4,7 @@ use Rattle.std.proofs.lemmas.Bool.Decides.{nat_tests}
 use Rattle.abstract_shapes.specs.Shapes.{Shape}
 use Rattle.world_rules.specs.Places.{Context, Variable, slot, global, slots_left, same_context, same_variable}
 use Rattle.world_rules.specs.Memories.{updated}
-use Rattle.world_rules.proofs.Same.{variable_same}
+use Rattle.world_rules.proofs.Same.{variable_same, variable_equal}
 use Rattle.py_meaning.specs.Values.{Value, Entries, entry, with_entry, without_entry}
 use Rattle.py_meaning.specs.Objects.{Object}
 use Rattle.world_covering.specs.Standing.{Grows}
@@ -153,3 +153,10 @@ kept_without shapes n x t h = go (same_variable (global n) x) refl h
     go : (b : Bool) → same_variable (global n) x ≡ b → (if b then None else shapes x) ≡ Some t → (Some (global n) ≢ Some x) × (shapes x ≡ Some t)
     go true q h = cc
     go false q h = (λ e. let z : same_variable (global n) x ≡ true = subst (λ y. same_variable (global n) y ≡ true) (some_same e) (variable_same (global n)) in cc, h)
+
+pub beside_without : (shapes : Shapes) (n : ℕ) (x : Variable) → (global n ≡ x → ⊥) → without shapes n x ≡ shapes x
+beside_without shapes n x apart = go (same_variable (global n) x) refl
+  where
+    go : (b : Bool) → same_variable (global n) x ≡ b → (if b then None else shapes x) ≡ shapes x
+    go true q = absurd (apart (variable_equal (global n) x q))
+    go false q = refl

@@ -15,7 +15,7 @@ use Rattle.tree_covering.specs.Trails.{Trail}
 use Rattle.tree_covering.specs.Turns.{account}
 use Rattle.world_covering.specs.Standing.{Grows}
 use Rattle.world_covering.specs.RowLaws.{turnless}
-use Rattle.world_covering.specs.Keeping.{code_in, Kept, Pending}
+use Rattle.world_covering.specs.Keeping.{code_in, Entry, Kept, Pending}
 use Rattle.world_covering.specs.Covering.{IsEnding}
 use Rattle.world_covering.proofs.Growing.{grows_new, grows_set, stands_on}
 
@@ -33,7 +33,7 @@ module _ (s : Source) (items : List Item) (error : ℕ) where
         code = λ c. code_in s c;
         locals = λ c. [];
         error = error;
-        Since = Unit {0};
+        Since = Entry;
         Kept = Unit {0};
         Always = λ g m. Unit {0};
         Made = λ g m o later. Unit {0};
@@ -41,8 +41,8 @@ module _ (s : Source) (items : List Item) (error : ℕ) where
         Way = λ q. ⊥;
         Asked = λ q way g m. Unit {0};
         Answered = λ q way g m o later m'. Unit {0};
-        IsAt = λ c since place stack g m. Kept s items c place stack m;
-        IsSent = λ c since outer stack v g m. Pending s items c outer stack m;
+        IsAt = λ c since place stack g m. Kept s items c since place stack m;
+        IsSent = λ c since outer stack v g m. Pending s items c since outer stack m;
         IsReturned = λ c since v g m. ⊥;
         IsHandled = λ since v. Unit {0};
       }
