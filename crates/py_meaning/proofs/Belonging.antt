@@ -134,3 +134,24 @@ outside_places_are_of_any_length = refl
 
 any_length_is_not_two : Has (object.outside (term.tuple_of term.int) ∷ []) (term.tuple (terms_of (term.int ∷ term.int ∷ []))) (ref 0) → ⊥
 any_length_is_not_two h = cc
+
+abbrev names_and_numbers : List Object
+names_and_numbers = object.outside (term.dict term.str term.int) ∷ []
+
+outside_dict_has_its_keys_and_values : Has names_and_numbers (term.dict term.str term.int) (ref 0)
+outside_dict_has_its_keys_and_values = refl
+
+outside_dict_lacks_other_keys : Has names_and_numbers (term.dict term.int term.int) (ref 0) → ⊥
+outside_dict_lacks_other_keys h = cc
+
+outside_dict_lacks_other_values : Has names_and_numbers (term.dict term.str term.str) (ref 0) → ⊥
+outside_dict_lacks_other_values h = cc
+
+outside_classes_are_of_classes_above : Has (object.outside (term.list (term.class_of (codes "bool"))) ∷ []) (term.list (term.class_of (codes "int"))) (ref 0)
+outside_classes_are_of_classes_above = refl
+
+outside_classes_are_of_no_others : Has (object.outside (term.list (term.class_of (codes "int"))) ∷ []) (term.list (term.class_of (codes "bool"))) (ref 0) → ⊥
+outside_classes_are_of_no_others h = cc
+
+outside_callables_give_no_others : Has (object.outside (term.list (term.callable term.int)) ∷ []) (term.list (term.callable term.str)) (ref 0) → ⊥
+outside_callables_give_no_others h = cc

@@ -323,3 +323,64 @@ copies_what_is_declared : answered copies_what_is_declared_module ((codes "m", m
 }
 unfolding answer turns_within
 copies_what_is_declared = refl
+
+-- nothing is known of what a stub's class is below
+--     from m import K
+--     x = isinstance(K(), int)
+abbrev may_be_an_int_module : Module
+may_be_an_int_module = record {
+  body = stmt (statement (tree.from (0 ∷ []) (record { name = 1; alias = None } ∷ [])) 1)
+      (stmt (statement (tree.assign (expr (node (tree.name 2) 2 0) no_exprs) (node (tree.call (node (tree.name 3) 2 1) (arg None (node (tree.call (node (tree.name 1) 2 2) no_args) 2 3) (arg None (node (tree.name 4) 2 4) no_args))) 2 5)) 2) no_stmts);
+  names = codes "m" ∷ codes "K" ∷ codes "x" ∷ codes "isinstance" ∷ codes "int" ∷ [];
+}
+
+may_be_an_int : answered may_be_an_int_module ((codes "m", m) ∷ []) 2 (0 ∷ 0 ∷ 0 ∷ 0 ∷ 0 ∷ 0 ∷ 0 ∷ []) ([]) ≡ record {
+  events = event.held 2 (truth true) ∷ [];
+  heap = object.foreign (object.stub_class (codes "m") (codes "K")) ∷ native (codes "isinstance") ∷ object.outside (term.class (codes "m.K")) ∷ native (codes "int") ∷ [];
+  ending = ended;
+  choices = [];
+  turns = 0;
+}
+unfolding answer turns_within
+may_be_an_int = refl
+
+-- an import of a path binds its first name
+--     import a.b
+--     x = a
+abbrev binds_the_first_name_module : Module
+binds_the_first_name_module = record {
+  body = stmt (statement (tree.import (record { path = 0 ∷ 1 ∷ []; alias = None } ∷ [])) 1) (stmt (statement (tree.assign (expr (node (tree.name 2) 2 0) no_exprs) (node (tree.name 0) 2 1)) 2) no_stmts);
+  names = codes "a" ∷ codes "b" ∷ codes "x" ∷ [];
+}
+
+binds_the_first_name : answered binds_the_first_name_module [] 0 (0 ∷ 0 ∷ []) ([]) ≡ record {
+  events = event.held 2 (ref 0) ∷ [];
+  heap = anything ∷ [];
+  ending = ended;
+  choices = [];
+  turns = 0;
+}
+unfolding answer turns_within
+binds_the_first_name = refl
+
+-- what may be anything may be iterated
+--     from m import v
+--     x = []
+--     x += v
+abbrev takes_items_of_anything_module : Module
+takes_items_of_anything_module = record {
+  body = stmt (statement (tree.from (0 ∷ []) (record { name = 1; alias = None } ∷ [])) 1)
+      (stmt (statement (tree.assign (expr (node (tree.name 2) 2 0) no_exprs) (node (tree.list no_exprs) 2 1)) 2)
+      (stmt (statement (tree.augment (node (tree.name 2) 3 2) bin.Add (node (tree.name 1) 3 3)) 3) no_stmts));
+  names = codes "m" ∷ codes "v" ∷ codes "x" ∷ [];
+}
+
+takes_items_of_anything : answered takes_items_of_anything_module ((codes "m", m) ∷ []) 0 (0 ∷ 0 ∷ 0 ∷ 0 ∷ 0 ∷ 1 ∷ []) ([]) ≡ record {
+  events = event.held 2 (ref 1) ∷ [];
+  heap = anything ∷ object.list 1 (ref 2 ∷ []) ∷ anything ∷ [];
+  ending = ended;
+  choices = [];
+  turns = 0;
+}
+unfolding answer turns_within
+takes_items_of_anything = refl
