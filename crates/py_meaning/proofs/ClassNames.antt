@@ -166,11 +166,11 @@ class_defined p root id name parent ms own line m good apart =
     let made : Good p root (with_new o m) = good_push {p = p} {root = root} {W = ⊥} m o good (grown_push m.heap o (λ e. absurd e)) tt (λ v f e. absurd (cc)) (λ w. push_one m.heap o (good.classes w) (λ d i e f. apart w i (f ∙ sym e))) in
     let s : Stands n place id = record { within = here_within m.heap o; class = ap class_number (last_object m.heap o) } in
     let stored : Safe p n (Named place (bound_names ms)) (then_do (fill_class p ms c) (store p name c)) =
-        safe_bind n (Named place (bound_names ms)) (Named place (bound_names ms)) (fill_class p ms c) (λ x. store p name c) (filled_named p place id ms n s) (λ x k le w.
-        safe_map k Free (Named place (bound_names ms)) (store p name c) (λ j y up f. names_on (bound_names ms) up (stands_on le s) w) (store_safe p k name c (within_on n k c le (here_within m.heap o)))) in
+    safe_bind n (Named place (bound_names ms)) (Named place (bound_names ms)) (fill_class p ms c) (λ x. store p name c) (filled_named p place id ms n s) (λ x k le w.
+    safe_map k Free (Named place (bound_names ms)) (store p name c) (λ j y up f. names_on (bound_names ms) up (stands_on le s) w) (store_safe p k name c (within_on n k c le (here_within m.heap o)))) in
     let ended : Safe p n (Defined (class_def id name parent ms own)) (and_on (then_do (fill_class p ms c) (store p name c))) =
-        safe_bind n (Named place (bound_names ms)) (Defined (class_def id name parent ms own)) (then_do (fill_class p ms c) (store p name c)) (λ x. gives goes_on) stored (λ x k le w.
-        safe_give k (Defined (class_def id name parent ms own)) goes_on (λ j up. (place, (stands_on up (stands_on le s)).class, names_on (bound_names ms) up (stands_on le s) w))) in
+    safe_bind n (Named place (bound_names ms)) (Defined (class_def id name parent ms own)) (then_do (fill_class p ms c) (store p name c)) (λ x. gives goes_on) stored (λ x k le w.
+    safe_give k (Defined (class_def id name parent ms own)) goes_on (λ j up. (place, (stands_on up (stands_on le s)).class, names_on (bound_names ms) up (stands_on le s) w))) in
     (tt, tt, ended.keeps root (with_new o m) made (grown_self n) n (grown_self n))
 
 -- ---- runs
@@ -209,7 +209,7 @@ same_from : (t : Request → State → Answer Flow) (p : Program) (calls : List 
 same_from t p calls ss more s u e =
     one_after_the_other t (then_do (exec_all p ss) (tell_names (printed p))) (λ x. make_calls p calls) s
     ∙ ap (λ r. going_on r (λ x. carry_out t (make_calls p calls)))
-        (one_after_the_other t (exec_all p ss) (λ x. tell_names (printed p)) s ∙ ap (λ r. going_on r (λ x. carry_out t (tell_names (printed p)))) e ∙ sym (one_after_the_other t (exec_all p more) (λ x. tell_names (printed p)) u))
+    (one_after_the_other t (exec_all p ss) (λ x. tell_names (printed p)) s ∙ ap (λ r. going_on r (λ x. carry_out t (tell_names (printed p)))) e ∙ sym (one_after_the_other t (exec_all p more) (λ x. tell_names (printed p)) u))
     ∙ sym (one_after_the_other t (then_do (exec_all p more) (tell_names (printed p))) (λ x. make_calls p calls) u)
 
 place_within : (n : Heap) (place id : ℕ) → class_number (object_at n place) ≡ Some id → place < length n
@@ -230,19 +230,19 @@ classes_keep_their_names m stubs n choices calls before after c line s t body fi
     let more : Stmts = stmt (statement (tree.class c) line) after in
     let x : Stmt = statement (tree.class c) line in
     let come : HoldsAfter (pointing p []) (Reached p [] more) (Whole p []) (gave goes_on s) =
-        subst (λ r. HoldsAfter (pointing p []) (Reached p [] more) (Whole p []) r) first
-        (runs_hold (pointing p []) (pointing_lasts p []) p (turn_holds p []) (Reached p [] more) (Whole p []) n (exec_all p before) tt (start n choices) (All-nil ((pointing p []).Told tt no_memory))
-        (statements_hold p [] before more no_memory (nothing_good p) (subst (λ b. Left p [] b) body (nothing_left p)))) in
+    subst (λ r. HoldsAfter (pointing p []) (Reached p [] more) (Whole p []) r) first
+    (runs_hold (pointing p []) (pointing_lasts p []) p (turn_holds p []) (Reached p [] more) (Whole p []) n (exec_all p before) tt (start n choices) (All-nil ((pointing p []).Told tt no_memory))
+    (statements_hold p [] before more no_memory (nothing_good p) (subst (λ b. Left p [] b) body (nothing_left p)))) in
     let past : HoldsAfter (pointing p []) (λ g u flow. Past p [] c after u) (Whole p []) (gave goes_on t) =
-        subst (λ r. HoldsAfter (pointing p []) (λ g u flow. Past p [] c after u) (Whole p []) r) own
-        (runs_hold (pointing p []) (pointing_lasts p []) p (turn_holds p []) (λ g u flow. Past p [] c after u) (Whole p []) n (exec p x) tt s come.1 (past_class p [] c line after s.memory come.2.0 (come.2.1 refl))) in
+    subst (λ r. HoldsAfter (pointing p []) (λ g u flow. Past p [] c after u) (Whole p []) r) own
+    (runs_hold (pointing p []) (pointing_lasts p []) p (turn_holds p []) (λ g u flow. Past p [] c after u) (Whole p []) n (exec p x) tt s come.1 (past_class p [] c line after s.memory come.2.0 (come.2.1 refl))) in
     let root : Heap = t.memory.heap in
     let good : Good p root t.memory = record { heap = past.2.0.heap; scope = past.2.0.scope; rows = past.2.0.rows; classes = past.2.0.classes; goes_on = grown_self root } in
     let kept : Kept p root (run_of (carry_out turns (from_on p after calls) t)).heap =
-        kept_after p root (carry_out turns (from_on p after calls) t)
-        (runs_hold (pointing p root) (pointing_lasts p root) p (turn_holds p root) (Whole p root) (Whole p root) n (from_on p after calls) tt t past.1 (rest_holds p root after calls t.memory good past.2.1)) in
+    kept_after p root (carry_out turns (from_on p after calls) t)
+    (runs_hold (pointing p root) (pointing_lasts p root) p (turn_holds p root) (Whole p root) (Whole p root) n (from_on p after calls) tt t past.1 (rest_holds p root after calls t.memory good past.2.1)) in
     let same : carry_out turns (from_on p p.body calls) (start n choices) ≡ carry_out turns (from_on p after calls) t =
-        same_from turns p calls p.body after (start n choices) t
-        (ap (λ b. carry_out turns (exec_all p b) (start n choices)) body ∙ skipped turns p before more (start n choices) s first
-        ∙ one_after_the_other turns (exec p x) (λ flow. then_next flow (exec_all p after)) s ∙ ap (λ r. going_on r (λ flow. carry_out turns (then_next flow (exec_all p after)))) own) in
+    same_from turns p calls p.body after (start n choices) t
+    (ap (λ b. carry_out turns (exec_all p b) (start n choices)) body ∙ skipped turns p before more (start n choices) s first
+    ∙ one_after_the_other turns (exec p x) (λ flow. then_next flow (exec_all p after)) s ∙ ap (λ r. going_on r (λ flow. carry_out turns (then_next flow (exec_all p after)))) own) in
     subst (λ r. HasItsNames (run_of r).heap c) (sym same) (names_later root (run_of (carry_out turns (from_on p after calls) t)).heap c kept.goes_on past.2.2)

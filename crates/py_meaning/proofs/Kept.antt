@@ -367,4 +367,3 @@ safe_gives_all n vs h = safe_give n AreWithin vs (λ k le. are_on n k vs le h)
 
 pub safe_gives_pairs : {p : Program} (n : Heap) (qs : List (Value × Value)) → PairsWithin n qs → Safe p n PairsWithin (gives qs)
 safe_gives_pairs n qs h = safe_give n PairsWithin qs (λ k le. pairs_on n k qs le h)
-

@@ -74,7 +74,7 @@ class_holds p root id name base ms own line m good apart =
     let c : Value = ref (length m.heap) in
     let made : Good p root (with_new o m) = good_push {p = p} {W = ⊥} m o good (grown_push m.heap o (λ e. absurd e)) tt (λ v f e. absurd (cc)) (λ w. push_one m.heap o (good.classes w) (λ d i e f. apart w i (f ∙ sym e))) in
     let filled : Safe p n FlowWithin (and_on (then_do (fill_class p ms c) (store p name c))) =
-        and_on_safe n Free (then_do (fill_class p ms c) (store p name c)) (safe_then n Free Free (fill_class p ms c) (store p name c) (fill_class_safe p ms n c) (λ j le. store_safe p j name c (within_on n j c le (here_within m.heap o)))) in
+    and_on_safe n Free (then_do (fill_class p ms c) (store p name c)) (safe_then n Free Free (fill_class p ms c) (store p name c) (fill_class_safe p ms n c) (λ j le. store_safe p j name c (within_on n j c le (here_within m.heap o)))) in
     (tt, tt, filled.keeps root (with_new o m) made (grown_self n) n (grown_self n))
 
 -- statements that are carried out, where more are to come

@@ -170,7 +170,10 @@ fn shapes_have_kinds(rt: HostRuntime) -> Result<(), Fail> {
         (Shape::View(site), Basic::View),
         (Shape::Inst(ClassId::new(1)), Basic::Other),
         (Shape::Given(class_named(alloc, "range")?), Basic::Range),
-        (Shape::Given(class_named(alloc, "KeyError")?), Basic::Exception),
+        (
+            Shape::Given(class_named(alloc, "KeyError")?),
+            Basic::Exception,
+        ),
         (Shape::Given(TypeTerm::Bytes), Basic::Bytes),
         (Shape::Ext, Basic::Other),
     ];
