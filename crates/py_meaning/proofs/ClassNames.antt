@@ -1,23 +1,23 @@
 -- A class has each name that its body binds, from its statement on.
-use Rattle.std.proofs.Common.{◌≡◌, ℕ, zero, suc, ◌<◌, ◌≤◌, ◌==◌, Bool, true, false, if◌then◌else◌, List, [], ◌∷◌, ◌++◌, length, Option, Some, None, slice_get, slice_set, refl, sym, ap, ◌∙◌, subst, arith}
+use Rattle.std.proofs.Common.{◌≡◌, ℕ, zero, suc, ◌<◌, ◌≤◌, ◌==◌, Bool, true, false, if◌then◌else◌, List, [], ◌∷◌, ◌++◌, length, Option, Some, None, slice_set, refl, sym, ap, ◌∙◌, subst, arith}
 use Rattle.std.specs.Prelude.{is_some}
 use Rattle.std.proofs.lemmas.List.Elements.{All-nil}
-use Rattle.type_terms.specs.Stubs.{Stub}
 use Rattle.py_tree.specs.Tree as tree
-use Rattle.py_tree.specs.Tree.{Expr, Stmts, no_stmts, stmt, Stmt, statement, FunDef, fun_def, ClassDef, class_def, Member, Members, no_members, member, Module}
+use Rattle.py_tree.specs.Tree.{Expr, Stmts, no_stmts, stmt, Stmt, statement, fun_def, ClassDef, class_def, Members, no_members, member}
 use Rattle.py_meaning.specs.Values.{Value, ref, Entries, entry, with_entry}
 use Rattle.py_meaning.specs.Objects as object
 use Rattle.py_meaning.specs.Objects.{Object, of_entries, refilled, object_at}
 use Rattle.py_meaning.specs.Programs.{Program, program, printed}
 use Rattle.py_meaning.specs.Names.{store}
 use Rattle.py_meaning.specs.Expressions.{eval}
-use Rattle.py_meaning.specs.Statements.{and_on, then_next, with_member, set_member, put_member, put_members, put_method, put_methods, fill_class, exec, exec_kind, exec_all}
+use Rattle.py_meaning.specs.Statements.{and_on, then_next, with_member, set_member, put_members, put_methods, fill_class, exec, exec_kind, exec_all}
 use Rattle.py_meaning.specs.Actions.{Memory, with_new, Flow, goes_on, breaks, continues, returns, OutsideCall, Request, Action, gives, bind, then_do, allocate, done}
-use Rattle.py_meaning.specs.Runs.{State, Answer, gave, raised, stopped, carry_out, turns_within, no_memory, start, tell_names, module_action, make_calls, run_of, answer, run}
+use Rattle.py_meaning.specs.Runs.{State, Answer, gave, raised, stopped, carry_out, turns_within, no_memory, start, tell_names, make_calls, run_of, answer, run}
 use Rattle.py_meaning.specs.Laws.{going_on}
 use Rattle.py_meaning.specs.Holds.{Holds, HoldsAfter}
 use Rattle.py_meaning.specs.ClassLaws.{class_number, class_entries, bound_names, HasNames, HasItsNames, joined, ClassesKeepTheirNames}
 use Rattle.py_meaning.proofs.Carrying.{one_after_the_other}
+use Rattle.py_meaning.proofs.Ending.{last_object}
 use Rattle.py_meaning.proofs.Holding.{holds_map, runs_hold}
 use Rattle.py_meaning.proofs.Growing.{Heap, ClassesApart, Became, Grows, Grown, grown_self, grown_on, grown_push, longer, became_at, same_class}
 use Rattle.py_meaning.proofs.Pointing.{IsWithin, ObjectWithin, within_on}
@@ -25,7 +25,7 @@ use Rattle.py_meaning.proofs.Kept.{pointing, pointing_lasts, Ended, SafeIn, Safe
 use Rattle.py_meaning.proofs.KeptNatives.{store_safe}
 use Rattle.py_meaning.proofs.KeptStatements.{eval_safe}
 use Rattle.py_meaning.proofs.KeptRuns.{turn_holds}
-use Rattle.py_meaning.proofs.KeptModules.{Left, NoneYet, none_on, none_pushed, Reached, Whole, statements_hold, nothing_good, nothing_left, from_on, rest_holds, kept_after, Kept}
+use Rattle.py_meaning.proofs.KeptModules.{Left, none_on, none_pushed, Reached, Whole, statements_hold, nothing_good, nothing_left, from_on, rest_holds, kept_after, Kept}
 
 -- ---- what is kept of a class's object
 
@@ -151,10 +151,6 @@ filled_named p place id ms n s =
 
 abbrev Defined : ClassDef → Heap → Flow → Type 0
 Defined c n flow = HasItsNames n c
-
-last_object : (os : Heap) (o : Object) → object_at (os ++ o ∷ []) (length os) ≡ o
-last_object [] o = refl
-last_object (x ∷ os) o = last_object os o
 
 class_defined : (p : Program) (root : Heap) (id name : ℕ) (parent : Option ℕ) (ms : Members) (own line : ℕ) (m : Memory) → Good p root m → (ClassesApart p → (i : ℕ) → class_number (object_at m.heap i) ≡ Some id → ⊥) →
     Holds (pointing p root) (Ended p root (m.heap ++ object.class id [] ∷ []) (Defined (class_def id name parent ms own))) (Ended p root (m.heap ++ object.class id [] ∷ []) IsWithin) tt m (exec_kind p (tree.class (class_def id name parent ms own)) line)

@@ -82,7 +82,7 @@ carried t Q a s h = of_given Q (carry_out t a s) (carry_holds anywhere anywhere_
 abbrev pub OfKind : Basic → Memory → Value → Type 0
 OfKind k m x = kind_of m.heap x ≡ k
 
-last_object : (os : List Object) (o : Object) → object_at (os ++ o ∷ []) (length os) ≡ o
+pub last_object : (os : List Object) (o : Object) → object_at (os ++ o ∷ []) (length os) ≡ o
 last_object [] o = refl
 last_object (x ∷ os) o = last_object os o
 

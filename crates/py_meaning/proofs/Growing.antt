@@ -5,10 +5,9 @@ use Rattle.std.specs.Prelude.{is_some}
 use Rattle.type_terms.specs.Terms as term
 use Rattle.scope_rules.specs.WellFormed.{Surroundings, AreFormedStmts, AreFormedHere}
 use Rattle.py_tree.specs.Tree.{Stmts}
-use Rattle.builtin_stubs.specs.declared.basic.Basic.{Basic}
-use Rattle.py_meaning.specs.Values.{Value, none, truth, whole, float, text, octets, ref, Entries, entry, with_entry}
+use Rattle.py_meaning.specs.Values.{Value, Entries, entry, with_entry}
 use Rattle.py_meaning.specs.Objects as object
-use Rattle.py_meaning.specs.Objects.{Object, Filling, of_values, of_pairs, of_entries, refilled, object_at, kind_of_object, kind_of}
+use Rattle.py_meaning.specs.Objects.{Object, Filling, of_values, of_pairs, of_entries, refilled, object_at, kind_of_object}
 use Rattle.py_meaning.specs.Programs.{Program, FunRow, fun_at}
 use Rattle.py_meaning.specs.ObjectLaws.{head}
 use Rattle.py_meaning.specs.ClassLaws.{class_number, class_entries, NumbersApart}
@@ -42,13 +41,6 @@ became_self o = record { same = refl; names = λ name e. e }
 
 became_on : (o q r : Object) → Became o q → Became q r → Became o r
 became_on o q r a b = record { same = b.same ∙ a.same; names = λ name e. b.names name (a.names name e) }
-
-head_refilled : (o : Object) (new : Filling) → head (refilled o new) ≡ head o
-head_refilled (object.list site vs) (of_values ws) = refl
-head_refilled (object.dict site qs) (of_pairs rs) = refl
-head_refilled (object.instance c es) (of_entries ds) = refl
-head_refilled (object.class c es) (of_entries ds) = refl
-head_refilled o new = refl
 
 pub class_of_head : (o : Object) → class_number (head o) ≡ class_number o
 class_of_head (object.class c es) = refl

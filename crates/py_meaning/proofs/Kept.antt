@@ -1,7 +1,7 @@
 -- Each value within the heap, as an account that is kept beside a run. One lemma for each way in which actions are put together.
-use Rattle.std.proofs.Common.{◌≡◌, ◌⊎◌, inl, inr, ℕ, zero, suc, ◌+◌, ◌≤◌, ◌<◌, ◌==◌, ◌%◌, Bool, true, false, if◌then◌else◌, List, [], ◌∷◌, ◌++◌, map, length, length-append, Option, Some, None, slice_get, slice_set, unwrap_or, refl, sym, ap, ◌∙◌, subst, arith}
+use Rattle.std.proofs.Common.{◌≡◌, ◌⊎◌, inl, inr, ℕ, zero, suc, ◌+◌, ◌%◌, Bool, true, false, if◌then◌else◌, List, [], ◌∷◌, ◌++◌, length, length-append, Option, Some, None, slice_get, slice_set, unwrap_or, refl, sym, ap, ◌∙◌, subst, arith}
 use Rattle.type_terms.specs.Terms as term
-use Rattle.py_meaning.specs.Values.{Value, none, truth, whole, float, text, octets, ref, Entries, entry, with_entry, without_entry}
+use Rattle.py_meaning.specs.Values.{Value, truth, ref, Entries, with_entry}
 use Rattle.py_meaning.specs.Objects as object
 use Rattle.py_meaning.specs.Objects.{Object, Filling, of_values, of_pairs, of_entries, refilled, object_at, kind_of_object, kind_of}
 use Rattle.py_meaning.specs.Events.{FaultKind, Event}
@@ -12,7 +12,7 @@ use Rattle.py_meaning.specs.ClassLaws.{class_number, OneObjectAClass}
 use Rattle.py_meaning.specs.Receivers.{is_raised, is_raised_at, HasItsRow}
 use Rattle.py_meaning.proofs.Holding.{holds_attempt}
 use Rattle.py_meaning.proofs.Growing.{Heap, ClassesApart, Block, Became, IsNew, Grows, loose, Grown, grown_self, grown_on, grown_push, grown_set, same_class, filled_values, filled_pairs, filled_instance, filled_class}
-use Rattle.py_meaning.proofs.Pointing.{RowFits, RowsFit, exact_row_on, rows_set, rows_push, IsWithin, AreWithin, EntriesWithin, PairsWithin, OptionWithin, ObjectWithin, ObjectsWithin, within_on, are_on, entries_on, pairs_on, option_on, object_on, objects_on, get_within, with_entry_within}
+use Rattle.py_meaning.proofs.Pointing.{RowFits, RowsFit, exact_row_on, rows_set, rows_push, IsWithin, AreWithin, EntriesWithin, PairsWithin, OptionWithin, ObjectWithin, ObjectsWithin, within_on, are_on, entries_on, pairs_on, option_on, object_on, objects_on, with_entry_within}
 
 -- ---- memory
 

@@ -1,18 +1,18 @@
 -- The statements of a module, of which those of its classes make their objects, and what holds of the last heap of a run.
-use Rattle.std.proofs.Common.{◌≡◌, ◌⊎◌, inl, inr, ℕ, zero, suc, ◌<◌, Bool, true, false, List, [], ◌∷◌, ◌++◌, length, Option, Some, None, slice_get, refl, sym, ap, ◌∙◌, subst, arith}
+use Rattle.std.proofs.Common.{◌≡◌, ◌⊎◌, inl, inr, ℕ, zero, suc, Bool, true, false, List, [], ◌∷◌, ◌++◌, length, Option, Some, None, slice_get, refl, sym, ap, ◌∙◌, subst, arith}
 use Rattle.std.proofs.lemmas.List.Elements.{All-nil}
 use Rattle.type_terms.specs.Stubs.{Stub}
 use Rattle.py_tree.specs.Tree as tree
-use Rattle.py_tree.specs.Tree.{Stmts, no_stmts, stmt, statement, StmtKind, FunDef, fun_def, ClassDef, class_def, Members, no_members, member, Module}
-use Rattle.scope_rules.specs.WellFormed.{Surroundings, outside, AreFormedHere, IsFormedFun, AreFormedMembers, IsWellFormed}
+use Rattle.py_tree.specs.Tree.{Stmts, no_stmts, stmt, statement, StmtKind, FunDef, fun_def, class_def, Members, no_members, member, Module}
+use Rattle.scope_rules.specs.WellFormed.{outside, AreFormedHere, IsFormedFun, AreFormedMembers, IsWellFormed}
 use Rattle.py_meaning.specs.Values.{Value, ref}
 use Rattle.py_meaning.specs.Objects as object
 use Rattle.py_meaning.specs.Objects.{Object, object_at}
-use Rattle.py_meaning.specs.Programs.{Program, FunRow, program, fun_row, fun_rows, method_rows, class_rows, fun_at, printed}
+use Rattle.py_meaning.specs.Programs.{Program, FunRow, program, fun_row, fun_rows, method_rows, printed}
 use Rattle.py_meaning.specs.Names.{store}
-use Rattle.py_meaning.specs.Statements.{define_function, and_on, then_next, fill_class, exec, exec_kind, exec_all}
-use Rattle.py_meaning.specs.Actions.{Memory, with_new, Flow, goes_on, breaks, continues, returns, OutsideCall, Action, gives, bind, then_do}
-use Rattle.py_meaning.specs.Runs.{Answer, gave, raised, stopped, carry_out, turns_within, no_memory, start, tell_names, module_action, make_calls, run_of, answer, run}
+use Rattle.py_meaning.specs.Statements.{define_function, and_on, then_next, fill_class, exec_kind, exec_all}
+use Rattle.py_meaning.specs.Actions.{Memory, with_new, Flow, goes_on, breaks, continues, returns, OutsideCall, Action, bind, then_do}
+use Rattle.py_meaning.specs.Runs.{Answer, gave, raised, stopped, carry_out, turns_within, no_memory, start, tell_names, make_calls, run_of, answer, run}
 use Rattle.py_meaning.specs.Holds.{Post, Holds, HoldsAfter}
 use Rattle.py_meaning.specs.References as points
 use Rattle.py_meaning.specs.References.{ReferencesPointIn}
@@ -21,7 +21,7 @@ use Rattle.py_meaning.specs.ClassLaws.{class_number, class_id, LeavesNumber, Num
 use Rattle.py_meaning.proofs.Holding.{holds_bind, holds_map, runs_hold}
 use Rattle.py_meaning.proofs.Growing.{Heap, ClassesApart, IsBlock, Grows, grown_self, grown_push, grown_class}
 use Rattle.py_meaning.proofs.Pointing.{RowFits, RowsFit, within_at, IsWithin, ObjectWithin, ObjectsWithin, within_on}
-use Rattle.py_meaning.proofs.Kept.{pointing, pointing_lasts, Ended, Good, Safe, Free, FlowWithin, safe_then, object_within, push_at, push_one, good_push, here_within}
+use Rattle.py_meaning.proofs.Kept.{pointing, pointing_lasts, Ended, Good, Safe, Free, FlowWithin, safe_then, push_at, push_one, good_push, here_within}
 use Rattle.py_meaning.proofs.KeptNatives.{store_safe}
 use Rattle.py_meaning.proofs.KeptStatements.{and_on_safe, define_function_safe, fill_class_safe, BlockKind, exec_kind_safe}
 use Rattle.py_meaning.proofs.KeptRuns.{turn_holds, tell_names_safe, make_calls_safe}

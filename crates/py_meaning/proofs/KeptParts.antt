@@ -1,5 +1,5 @@
 -- Subscripts, attributes and tests of classes keep values within the heap.
-use Rattle.std.proofs.Common.{ℕ, zero, suc, ◌≤◌, Bool, true, false, ◌==◌, if◌then◌else◌, List, [], ◌∷◌, length, Option, Some, None, slice_get, slice_set, ◌≡◌, ◌⊎◌, inl, inr, refl, ◌∙◌, ap}
+use Rattle.std.proofs.Common.{ℕ, zero, suc, Bool, true, false, ◌==◌, if◌then◌else◌, List, [], ◌∷◌, length, Option, Some, None, slice_get, slice_set, ◌≡◌, inl, inr, refl, ◌∙◌, ap}
 use Rattle.std.specs.Prelude.{codes, is_some}
 use Rattle.std.specs.Option.{option_and_then}
 use Rattle.builtin_stubs.specs.declared.basic.Basic.{Basic}
@@ -24,14 +24,14 @@ use Rattle.py_meaning.specs.Fresh.{value_of_row}
 use Rattle.py_meaning.specs.Contents.{Content, contents, pairs, Pair, read}
 use Rattle.py_meaning.specs.Iteration.{Step, no_items, ended, element, iterate}
 use Rattle.py_meaning.specs.Subscripts as subscript
-use Rattle.py_meaning.specs.Subscripts.{read_one, part_of, value_in, value_at, read_part, read_item, store_part, with_pair, store_pair, store_item, sliced, slice_object, read_slice, unpacked, place_at, part_from, unpack_one, unpack_from, unpack}
+use Rattle.py_meaning.specs.Subscripts.{read_one, part_of, value_in, value_at, read_part, read_item, store_part, with_pair, store_item, sliced, slice_object, read_slice, unpacked, place_at, part_from, unpack_one, unpack_from, unpack}
 use Rattle.py_meaning.specs.Attributes as attribute
-use Rattle.py_meaning.specs.Attributes.{lacks, is_init, members_if, members_of, look_up, bound_object, bound_to, base_init, native_attribute, kind_attribute, otherwise_of_instance, instance_attribute, class_attribute, item_value, module_attribute, member_value, after_bases, stub_attribute, foreign_attribute, outside_attribute, object_attribute, read_attribute, takes_attributes, store_attribute, after_class, first_binding, super_member, super_of_object, super_attribute}
+use Rattle.py_meaning.specs.Attributes.{lacks, is_init, members_if, members_of, look_up, bound_object, bound_to, base_init, native_attribute, kind_attribute, otherwise_of_instance, instance_attribute, class_attribute, item_value, module_attribute, member_value, after_bases, stub_attribute, foreign_attribute, outside_attribute, object_attribute, read_attribute, takes_attributes, store_attribute, super_member, super_of_object, super_attribute}
 use Rattle.py_meaning.specs.ClassTests.{Test, yes_it_has, no_it_lacks, perhaps, decided, test_class, class_of_object, tuple_parts, some_part, part_test, may_match_with, may_match, tuple_test, object_test, matches_object, matches, may_pass}
 use Rattle.py_meaning.specs.Actions.{Memory, Action, gives, looks, bind, allocate, refill, anything, is_even, pick, one_of, raise_builtin, done}
 use Rattle.py_meaning.specs.Receivers.{is_raised_at, IsTakenAs, IsMethodOf}
-use Rattle.py_meaning.proofs.Growing.{Heap, Grown, grown_self, grown_on}
-use Rattle.py_meaning.proofs.Pointing.{sort_on, AreWithin, EntriesWithin, IsWithin, ObjectWithin, ObjectsWithin, OptionWithin, PairsWithin, are_on, entry_within, get_within, object_on, pairs_on, set_within, with_entry_within, within_on, loosely}
+use Rattle.py_meaning.proofs.Growing.{Heap, Grown, grown_self}
+use Rattle.py_meaning.proofs.Pointing.{sort_on, AreWithin, EntriesWithin, IsWithin, ObjectWithin, ObjectsWithin, OptionWithin, PairsWithin, are_on, entry_within, get_within, object_on, pairs_on, set_within, within_on, loosely}
 use Rattle.py_meaning.proofs.Kept.{SafeIn, IsAt, safe_at_value, safe_at_now, enter_instance, enter_class, safe_known, safe_give, Good, Safe, Free, safe_bind, safe_takes, safe_looks, safe_if, safe_allocate, safe_done, safe_values, safe_pairs, safe_at, object_within, safe_pick, safe_anything, safe_raise, safe_fails, safe_tells, safe_may, safe_option, safe_found, safe_gives, safe_gives_all}
 use Rattle.py_meaning.proofs.KeptValues.{text_safe, octets_safe, kind_safe, row_value_safe, fresh_safe, ContentWithin, ContentsWithin, ContentPairsWithin, contents_on, contents_within, contents_at_within, content_pairs_within, read_safe, read_all_safe, StepWithin, iterate_safe, drain_safe}
 use Rattle.py_meaning.specs.Truth.{has_parts}

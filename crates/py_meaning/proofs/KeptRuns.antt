@@ -8,9 +8,9 @@ use Rattle.py_tree.specs.declared.literal.Literal.{Literal}
 use Rattle.py_tree.specs.Tree.{Param}
 use Rattle.py_meaning.specs.Values.{Value, none, ref, Entries, entry, literal_value}
 use Rattle.py_meaning.specs.Objects as object
-use Rattle.py_meaning.specs.Objects.{Object, Foreign, builtin, stub_fun, stub_class, stub_method, object_at, is_unfollowed}
+use Rattle.py_meaning.specs.Objects.{Object, Foreign, builtin, stub_fun, stub_class, stub_method, is_unfollowed}
 use Rattle.py_meaning.specs.Events.{FaultKind, not_callable, returned, held}
-use Rattle.py_meaning.specs.Programs.{Program, FunRow, program, fun_at, init_of, exception_base, printed}
+use Rattle.py_meaning.specs.Programs.{Program, FunRow, fun_at, init_of, exception_base}
 use Rattle.py_meaning.specs.StubItems.{stub_class_at, stub_at, dotted, fun_in, bases, method_among, read_type}
 use Rattle.py_meaning.specs.Fresh.{fresh}
 use Rattle.py_meaning.specs.Matching.{Source, receiver, argument, default, Matched, matched, mismatch, native_fault}
@@ -19,15 +19,14 @@ use Rattle.py_meaning.specs.Expressions.{value_of_flow}
 use Rattle.py_meaning.specs.Targets.{put}
 use Rattle.py_meaning.specs.Statements.{exec_all, run_while, run_for, once_more}
 use Rattle.py_meaning.specs.Calls.{default_value, argument_value, source_value, parameters_bound, with_frame, told_return, enter, enter_matched, match_row, call_function, start_instance, instance_matched, plain_arguments, make_plain, make_with, make_instance, match_stub, given_or_fault, call_stub_fun, call_stub_class, call_stub_method, call_foreign, call_object, call_any, outside_value, outside_values, outside_locals, enter_from_outside, finds_at, receivers_if, receivers, method_from_outside, function_from_outside, instance_from_outside, class_from_outside, call_from_outside, returning, perform}
-use Rattle.py_meaning.specs.Actions.{Frame, Scope, Memory, Argument, Flow, returns, OutsideCall, calls_function, calls_class, Request, call, while_turn, for_turn, outside_call, Action, gives, looks, bind, then_do, changes, allocate, anything, pick, one_of, fails, done}
-use Rattle.py_meaning.specs.Runs.{Answer, gave, raised, stopped, carry_out, scope_after, turns_within, no_memory, start, tell_if, tell_names, module_action, can_be_called, call_if, make_calls, run_of, answer, run}
-use Rattle.py_meaning.specs.Holds.{Holds, HoldsAfter}
-use Rattle.py_meaning.specs.References.{ReferencesPointIn}
-use Rattle.py_meaning.proofs.Holding.{GaveInside, RaisedInside, left_by, holds_map, runs_hold}
+use Rattle.py_meaning.specs.Actions.{Frame, Scope, Memory, Argument, Flow, returns, OutsideCall, calls_function, calls_class, Request, call, while_turn, for_turn, outside_call, Action, gives, looks, bind, changes, allocate, anything, pick, one_of, fails, done}
+use Rattle.py_meaning.specs.Runs.{scope_after, tell_if, tell_names, can_be_called, call_if, make_calls, answer}
+use Rattle.py_meaning.specs.Holds.{Holds}
+use Rattle.py_meaning.proofs.Holding.{GaveInside, RaisedInside, left_by, holds_map}
 use Rattle.py_meaning.specs.Receivers.{IsUnbound}
-use Rattle.py_meaning.proofs.Growing.{ClassesApart, Block, Grows, Heap, Grown, grown_self, grown_on}
-use Rattle.py_meaning.proofs.Pointing.{MayHaveRow, AreWithin, EntriesWithin, IsWithin, ObjectWithin, ObjectsWithin, OptionWithin, are_on, entries_on, get_within, option_on, within_on}
-use Rattle.py_meaning.proofs.Kept.{safe_known, pointing, pointing_lasts, Ended, ScopeWithin, safe_changes, safe_give, frame_on, Good, Safe, Free, ArgumentsWithin, RequestWithin, FlowWithin, safe_bind, safe_then, safe_looks, safe_if, safe_allocate, safe_done, safe_at, safe_pick, safe_anything, safe_fails, safe_tells, safe_option, safe_gives}
+use Rattle.py_meaning.proofs.Growing.{Block, Grows, Heap, Grown, grown_self, grown_on}
+use Rattle.py_meaning.proofs.Pointing.{MayHaveRow, AreWithin, EntriesWithin, IsWithin, ObjectWithin, OptionWithin, are_on, entries_on, get_within, option_on, within_on}
+use Rattle.py_meaning.proofs.Kept.{safe_known, pointing, Ended, ScopeWithin, safe_changes, safe_give, frame_on, Good, Safe, Free, ArgumentsWithin, RequestWithin, FlowWithin, safe_bind, safe_then, safe_looks, safe_if, safe_allocate, safe_done, safe_at, safe_pick, safe_anything, safe_fails, safe_tells, safe_option, safe_gives}
 use Rattle.py_meaning.proofs.KeptValues.{fresh_safe}
 use Rattle.py_meaning.proofs.KeptNatives.{arguments_on, call_native_safe}
 use Rattle.py_meaning.proofs.KeptStatements.{safe_turn, flow_value, literal_within, may_then, put_safe, gives_flow, once_more_safe, while_safe, for_safe, exec_all_safe}

@@ -1,5 +1,5 @@
 -- Expressions, targets and statements keep values within the heap.
-use Rattle.std.proofs.Common.{ℕ, ◌≤◌, Bool, true, false, if◌then◌else◌, List, [], ◌∷◌, map, Option, Some, None, arith, ◌≡◌}
+use Rattle.std.proofs.Common.{ℕ, Bool, true, false, if◌then◌else◌, List, [], ◌∷◌, map, Option, Some, None, ◌≡◌}
 use Rattle.std.specs.Prelude.{codes, is_some, not}
 use Rattle.std.specs.Option.{option_and_then}
 use Rattle.place_ids.specs.declared.operators.BinOp.{BinOp}
@@ -9,8 +9,8 @@ use Rattle.type_terms.specs.Terms as term
 use Rattle.py_tree.specs.declared.literal.Literal.{Literal}
 use Rattle.py_tree.specs.declared.literal.Literal.TheVariants as lit
 use Rattle.py_tree.specs.Tree as tree
-use Rattle.py_tree.specs.Tree.{Expr, node, ExprKind, Exprs, no_exprs, expr, Bound, no_bound, bound, Args, no_args, arg, Pairs, no_pairs, pair, ImportPart, FromPart, site_of, Stmt, statement, StmtKind, Stmts, no_stmts, stmt, Arms, no_arms, arm, Handlers, no_handlers, handler, FunDef, fun_def, ClassDef, class_def, Member, Members, no_members, member}
-use Rattle.py_meaning.specs.Values.{Value, none, truth, whole, float, text, octets, ref, Entries, entry, with_entry, without_entry, literal_value}
+use Rattle.py_tree.specs.Tree.{Expr, node, ExprKind, Exprs, no_exprs, expr, Bound, no_bound, bound, Args, no_args, arg, Pairs, no_pairs, pair, ImportPart, FromPart, site_of, statement, StmtKind, Stmts, no_stmts, stmt, Arms, no_arms, arm, Handlers, no_handlers, handler, FunDef, fun_def, ClassDef, class_def, Member, Members, no_members, member}
+use Rattle.py_meaning.specs.Values.{Value, none, truth, whole, float, text, octets, ref, Entries, entry, without_entry, literal_value}
 use Rattle.py_meaning.specs.Objects as object
 use Rattle.py_meaning.specs.Objects.{Object, object_at}
 use Rattle.py_meaning.specs.Events.{not_iterable}
@@ -34,8 +34,8 @@ use Rattle.py_meaning.specs.Statements.{and_on, then_next, evaluated, returned_v
 use Rattle.py_meaning.specs.Actions.{Memory, is_even, Frame, Scope, Argument, Flow, goes_on, breaks, continues, returns, Request, call, while_turn, for_turn, outside_call, Outcome, came, threw, Action, gives, raises, turn, looks, bind, then_do, changes, afterwards, allocate, refill, anything, may_raise, raise_builtin, fails, done}
 use Rattle.scope_rules.specs.WellFormed.{Surroundings, looped, IsFormedKind, AreFormedArms, AreFormedHandlers}
 use Rattle.py_meaning.proofs.Growing.{ClassesApart, Block, Heap, Grown, grown_self, grown_on}
-use Rattle.py_meaning.proofs.Pointing.{AreWithin, EntriesWithin, IsWithin, ObjectWithin, OptionWithin, PairsWithin, are_on, entry_within, option_on, with_entry_within, within_on, without_entry_within}
-use Rattle.py_meaning.proofs.Kept.{SafeIn, Good, safe_at_now, enter_class, safe_give, FrameWithin, ScopeWithin, Safe, safe_changes, safe_afterwards, Free, ArgumentsWithin, RequestWithin, FlowWithin, OutcomeWithin, safe_attempt, safe_raises, safe_bind, safe_then, safe_takes, safe_looks, safe_if, safe_on, safe_allocate, safe_done, safe_values, safe_pairs, safe_at, safe_anything, safe_raise, safe_fails, safe_may, safe_gives, safe_gives_all, safe_gives_pairs}
+use Rattle.py_meaning.proofs.Pointing.{AreWithin, EntriesWithin, IsWithin, ObjectWithin, OptionWithin, PairsWithin, are_on, entry_within, option_on, within_on, without_entry_within}
+use Rattle.py_meaning.proofs.Kept.{SafeIn, Good, safe_at_now, enter_class, safe_give, FrameWithin, ScopeWithin, Safe, safe_changes, safe_afterwards, Free, ArgumentsWithin, RequestWithin, FlowWithin, OutcomeWithin, safe_attempt, safe_raises, safe_bind, safe_then, safe_takes, safe_looks, safe_if, safe_on, safe_allocate, safe_done, safe_values, safe_at, safe_anything, safe_raise, safe_fails, safe_may, safe_gives, safe_gives_all, safe_gives_pairs}
 use Rattle.py_meaning.proofs.KeptValues.{all_held, repeated_safe, binary_safe, unary_safe, compare_safe, StepWithin, iterate_safe, items_safe}
 use Rattle.py_meaning.proofs.KeptParts.{read_item_safe, store_item_safe, slice_safe, unpack_safe, item_value_safe, attribute_safe, store_attribute_safe, super_safe, matches_safe}
 use Rattle.py_meaning.proofs.KeptNatives.{arguments_on, add_parts_safe, builtin_value_safe, load_safe, changed_within, store_safe}

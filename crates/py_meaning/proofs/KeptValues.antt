@@ -1,5 +1,5 @@
 -- Fresh values, parts, operators and what iterating gives are within the heap.
-use Rattle.std.proofs.Common.{pos, ℕ, zero, suc, ◌≤◌, Bool, List, [], ◌∷◌, ◌++◌, map, length, Option, Some, None, slice_get, unwrap_or}
+use Rattle.std.proofs.Common.{pos, ℕ, zero, suc, Bool, List, [], ◌∷◌, ◌++◌, map, length, Option, Some, None, slice_get, unwrap_or}
 use Rattle.std.specs.Prelude.{is_some, codes}
 use Rattle.std.specs.Str.{bytes_eq}
 use Rattle.type_terms.specs.BuiltinNames.{is_instance_name}
@@ -32,9 +32,9 @@ use Rattle.py_meaning.specs.Contents.{Content, held, declared, contents, content
 use Rattle.py_meaning.specs.Operators.{times, repeated, gathered, made, by_row, binary, unary, known_truth, ordered, within, compare}
 use Rattle.py_meaning.specs.Iteration.{Step, no_items, ended, element, on_element, stepped, among, by_parity, of_places, declared_step, step_of_term, values_of, pair_of, paired, pairs_of, at_value, paired_with, numbered, argument_at, step_of_view, step_of_native, step_of_object, step_of, iterate_in, iterate, drain_in, drain, items_of_object, items_of}
 use Rattle.py_meaning.specs.Actions.{is_even, Memory, Action, gives, allocate, anything}
-use Rattle.py_meaning.proofs.Growing.{Heap, Grown, grown_self, grown_on}
+use Rattle.py_meaning.proofs.Growing.{Heap, Grown}
 use Rattle.py_meaning.proofs.Pointing.{AreWithin, IsWithin, ObjectWithin, OptionWithin, PairWithin, PairsWithin, are_append, are_on, firsts_within, get_within, or_within, pair_within, pairs_on, seconds_within, within_on}
-use Rattle.py_meaning.proofs.Kept.{safe_give, Good, Safe, Free, safe_bind, safe_takes, safe_counts, safe_looks, safe_if, safe_allocate, safe_at, object_within, safe_pick, safe_anything, safe_either, safe_fails, safe_one, safe_option, safe_known, safe_gives, safe_gives_all, safe_gives_pairs}
+use Rattle.py_meaning.proofs.Kept.{safe_give, Good, Safe, Free, safe_bind, safe_takes, safe_counts, safe_looks, safe_if, safe_allocate, safe_at, object_within, safe_pick, safe_anything, safe_either, safe_fails, safe_one, safe_known, safe_gives, safe_gives_all, safe_gives_pairs}
 
 -- ---- fresh values
 

@@ -1,15 +1,15 @@
 -- A view of a dict's own parts comes of a dict's method, and so it has a dict.
-use Rattle.std.proofs.Common.{◌≡◌, ℕ, zero, suc, ◌+◌, ◌<◌, ◌≢◌, ◌⊎◌, inl, inr, Bool, true, false, not, ◌&&◌, List, [], ◌∷◌, ◌++◌, length, Option, Some, None, option_map, slice_get, if◌then◌else◌, refl, sym, ap, ◌∙◌, subst, append_assoc, arith}
+use Rattle.std.proofs.Common.{◌≡◌, ℕ, zero, suc, ◌+◌, ◌<◌, ◌≢◌, inl, inr, Bool, true, false, not, ◌&&◌, List, [], ◌∷◌, ◌++◌, length, Option, Some, None, option_map, slice_get, if◌then◌else◌, refl, sym, ap, ◌∙◌, subst, arith}
 use Rattle.std.specs.List.{list_all}
 use Rattle.std.specs.Str.{bytes_eq}
 use Rattle.builtin_stubs.specs.declared.basic.Basic.{Basic}
 use Rattle.builtin_stubs.specs.declared.basic.Basic.TheVariants as kind
 use Rattle.builtin_stubs.specs.Meanings.{Native, outcome_of}
-use Rattle.builtin_stubs.specs.Natives.{natives, function_natives, list_natives, dict_natives, tuple_natives, str_natives, bytes_natives, int_natives, float_natives, exception_natives, methods_of, before_methods, place_named, number_in, function_number, method_number}
+use Rattle.builtin_stubs.specs.Natives.{natives, function_natives, list_natives, dict_natives, tuple_natives, str_natives, bytes_natives, int_natives, float_natives, exception_natives, place_named, number_in, function_number, method_number}
 use Rattle.py_meaning.specs.Values.{Value}
 use Rattle.py_meaning.specs.Programs.{Program}
 use Rattle.py_meaning.specs.Objects.{kind_of}
-use Rattle.py_meaning.specs.Receivers.{IsFunction, goes_through_own, IsDict, HasItsDict}
+use Rattle.py_meaning.specs.Receivers.{IsFunction, goes_through_own, HasItsDict}
 use Rattle.py_meaning.proofs.Growing.{Heap, Grown}
 use Rattle.py_meaning.proofs.Pointing.{MayBeTakenAs, MayBeMethodOf, OptionWithin, method_on}
 

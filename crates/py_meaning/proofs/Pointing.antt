@@ -7,11 +7,11 @@ use Rattle.builtin_stubs.specs.declared.basic.Basic.TheVariants as kind
 use Rattle.builtin_stubs.specs.Natives.{method_number}
 use Rattle.py_meaning.specs.Programs.{Program}
 use Rattle.py_meaning.specs.Objects as object
-use Rattle.py_meaning.specs.Objects.{Object, Foreign, builtin, stub_fun, stub_class, stub_method, Filling, of_values, of_pairs, of_entries, refilled, object_at, kind_of}
+use Rattle.py_meaning.specs.Objects.{Object, Foreign, builtin, stub_fun, stub_class, stub_method, object_at, kind_of}
 use Rattle.py_meaning.specs.ObjectLaws.{head}
 use Rattle.py_meaning.specs.References as points
-use Rattle.py_meaning.specs.Receivers.{is_raised_at, IsTakenAs, IsMethodOf, IsDict, HasItsDict, HasItsRow, IsUnbound}
-use Rattle.py_meaning.proofs.Growing.{Heap, Became, Grows, longer, became_at, same_kind, same_sort}
+use Rattle.py_meaning.specs.Receivers.{is_raised_at, IsMethodOf, IsDict, HasItsDict, HasItsRow, IsUnbound}
+use Rattle.py_meaning.proofs.Growing.{Heap, Grows, longer, became_at, same_kind, same_sort}
 
 abbrev pub IsWithin : Heap → Value → Type 0
 IsWithin n v = points.IsWithin (length n) v

@@ -2,7 +2,7 @@
 use Rattle.std.specs.Prelude.{◌≡◌, ℕ, true, List, [], ◌∷◌, Option, Some, None, is_some}
 use Rattle.type_terms.specs.Stubs.{Stub}
 use Rattle.py_tree.specs.Tree as tree
-use Rattle.py_tree.specs.Tree.{statement, def, Stmts, no_stmts, stmt, ClassDef, class_def, Members, no_members, member, FunDef, fun_def, Module}
+use Rattle.py_tree.specs.Tree.{statement, Stmts, no_stmts, stmt, ClassDef, class_def, Members, no_members, member, fun_def, Module}
 use Rattle.scope_rules.specs.WellFormed.{IsWellFormed}
 use Rattle.py_meaning.specs.Values.{Entries, entry}
 use Rattle.py_meaning.specs.Objects as object
