@@ -384,3 +384,22 @@ takes_items_of_anything : answered takes_items_of_anything_module ((codes "m", m
 }
 unfolding answer turns_within
 takes_items_of_anything = refl
+
+-- what may be anything may be raised
+--     from m import v
+--     raise v
+abbrev raises_anything_module : Module
+raises_anything_module = record {
+  body = stmt (statement (tree.from (0 ∷ []) (record { name = 1; alias = None } ∷ [])) 1) (stmt (statement (tree.raise (Some (node (tree.name 1) 2 0)) None) 2) no_stmts);
+  names = codes "m" ∷ codes "v" ∷ [];
+}
+
+raises_anything : answered raises_anything_module ((codes "m", m) ∷ []) 0 (0 ∷ 0 ∷ 0 ∷ 0 ∷ []) ([]) ≡ record {
+  events = [];
+  heap = anything ∷ [];
+  ending = raised_out (ref 0);
+  choices = [];
+  turns = 0;
+}
+unfolding answer turns_within
+raises_anything = refl
