@@ -51,8 +51,8 @@ module _ (s : Source) (items : List Item) (error : ℕ) (closed : IsClosed s ite
   abbrev t : Trail
   t = covering s items error
 
-  abbrev At' : Around t → ℕ → List Value → Memory → Type 0
-  At' x place stack m = Kept s items x.context x.since place stack m
+  abbrev IsKept : Around t → ℕ → List Value → Memory → Type 0
+  IsKept x place stack m = Kept s items x.context x.since place stack m
 
   -- ---- two operands
 
@@ -108,7 +108,7 @@ module _ (s : Source) (items : List Item) (error : ℕ) (closed : IsClosed s ite
   literal_stands heap (literal.Str empty) = record { shape = shape.str; is = refl; stands = a_text }
   literal_stands heap (literal.Bytes empty) = record { shape = shape.bytes; is = refl; stands = some_bytes }
 
-  pub constant_kept : (x : Around t) (a : Literal) (place line : ℕ) (stack : List Value) (m : Memory) → OpIn t x place (op.Const (kind_of a)) line → At' x place stack m → At' x (suc place) (literal_value a ∷ stack) m
+  pub constant_kept : (x : Around t) (a : Literal) (place line : ℕ) (stack : List Value) (m : Memory) → OpIn t x place (op.Const (kind_of a)) line → IsKept x place stack m → IsKept x (suc place) (literal_value a ∷ stack) m
   constant_kept x a place line stack m l k =
       let made_of : LiteralStands m.heap a = literal_stands m.heap a in
       let r : SeatReading = record { seats = []; transfer = transfer.Makes (constant (kind_of a)) } in
@@ -117,7 +117,7 @@ module _ (s : Source) (items : List Item) (error : ℕ) (closed : IsClosed s ite
 
   -- ---- the stack alone
 
-  pub copy_kept : (x : Around t) (place line below : ℕ) (stack : List Value) (v : Value) (m : Memory) → OpIn t x place (op.Pick below) line → slice_get stack below ≡ Some v → At' x place stack m → At' x (suc place) (v ∷ stack) m
+  pub copy_kept : (x : Around t) (place line below : ℕ) (stack : List Value) (v : Value) (m : Memory) → OpIn t x place (op.Pick below) line → slice_get stack below ≡ Some v → IsKept x place stack m → IsKept x (suc place) (v ∷ stack) m
   copy_kept x place line below stack v m l e k =
       let y : IsSeated k.shapes m.heap (slot x.context (Rattle.world_rules.specs.Places.slots_left (length stack) (suc below))) v = seat_of x.context k.shapes m.heap stack below v e k.slots in
       let r : SeatReading = record { seats = slot_below (length stack) below ∷ []; transfer = transfer.Copies } in
@@ -129,25 +129,25 @@ module _ (s : Source) (items : List Item) (error : ℕ) (closed : IsClosed s ite
       needs (w ∷ stack) zero v e = omega arith
       needs (w ∷ stack) (suc below) v e = let h : below + 1 ≤ length stack = needs stack below v e in omega (arith, h)
 
-  pub pop_kept : (x : Around t) (place line : ℕ) (stack : List Value) (v : Value) (m : Memory) → OpIn t x place op.Pop line → At' x place (v ∷ stack) m → At' x (suc place) stack m
+  pub pop_kept : (x : Around t) (place line : ℕ) (stack : List Value) (v : Value) (m : Memory) → OpIn t x place op.Pop line → IsKept x place (v ∷ stack) m → IsKept x (suc place) stack m
   pop_kept x place line stack v m l k =
       drops s items x.since closed x.context place line x.outer op.Pop (v ∷ stack) m l k (omega arith) stack refl refl (omega arith) refl unasked k.slots.1
 
   -- ---- jumps and tests
 
   module _ (x : Around t) (place line goal : ℕ) (stack : List Value) (m : Memory) (fits : goal < length (code_in s x.context).ops) where
-    pub jump_kept : OpIn t x place (op.Jump goal) line → At' x place stack m → At' x goal stack m
+    pub jump_kept : OpIn t x place (op.Jump goal) line → IsKept x place stack m → IsKept x goal stack m
     jump_kept l k =
         leaps s items x.since closed x.context place line x.outer (op.Jump goal) stack m l k (omega arith) stack (record { goal = goal; on_jump = None; on_fall = None }) refl fits (omega arith) unasked k.slots
 
     module _ (v : Value) where
       -- the test of the top lets its shape pass
-      asked : (k : At' x place (v ∷ stack) m) (b : Bool) → Passes k.slots.0.shape b → Answers (world_of s items) (ask_top x.context (suc (length stack)) (Some (if b then MayBeTrue else MayBeFalse))) k.shapes
+      asked : (k : IsKept x place (v ∷ stack) m) (b : Bool) → Passes k.slots.0.shape b → Answers (world_of s items) (ask_top x.context (suc (length stack)) (Some (if b then MayBeTrue else MayBeFalse))) k.shapes
       asked k true p = passes k.slots.0.shape k.slots.0.has p
       asked k false p = passes k.slots.0.shape k.slots.0.has p
 
-      choice : (o : Op) (if_true if_false : ℕ) (on_true on_false : List Value) (k : At' x place (v ∷ stack) m) →
-          (Passes k.slots.0.shape true → At' x if_true on_true m) → (Passes k.slots.0.shape false → At' x if_false on_false m) →
+      choice : (o : Op) (if_true if_false : ℕ) (on_true on_false : List Value) (k : IsKept x place (v ∷ stack) m) →
+          (Passes k.slots.0.shape true → IsKept x if_true on_true m) → (Passes k.slots.0.shape false → IsKept x if_false on_false m) →
           Holds (account t) (ChoiceAt t x if_true if_false on_true on_false) (SentOver t x stack) tt m (truth_of v)
       choice o if_true if_false on_true on_false k on_yes on_no =
           along s items error (λ e. ⊥) (λ h e told. absurd told) (λ g later b. (later ≡ m) × Passes k.slots.0.shape b) (λ g later raised. ⊥) (ChoiceAt t x if_true if_false on_true on_false) (SentOver t x stack)
@@ -157,25 +157,25 @@ module _ (s : Source) (items : List Item) (error : ℕ) (closed : IsClosed s ite
           go true p = on_yes p
           go false p = on_no p
 
-      pub false_leaves : OpIn t x place (op.JumpIfFalse goal) line → At' x place (v ∷ stack) m → Holds (account t) (ChoiceAt t x (suc place) goal stack stack) (SentOver t x stack) tt m (truth_of v)
+      pub false_leaves : OpIn t x place (op.JumpIfFalse goal) line → IsKept x place (v ∷ stack) m → Holds (account t) (ChoiceAt t x (suc place) goal stack stack) (SentOver t x stack) tt m (truth_of v)
       false_leaves l k =
           choice (op.JumpIfFalse goal) (suc place) goal stack stack k
           (λ p. drops s items x.since closed x.context place line x.outer (op.JumpIfFalse goal) (v ∷ stack) m l k (omega arith) stack refl refl (omega arith) refl (asked k true p) k.slots.1)
           (λ p. leaps s items x.since closed x.context place line x.outer (op.JumpIfFalse goal) (v ∷ stack) m l k (omega arith) stack (record { goal = goal; on_jump = Some MayBeFalse; on_fall = Some MayBeTrue }) refl fits (omega arith) (asked k false p) k.slots.1)
 
-      pub false_keeps : OpIn t x place (op.JumpIfFalseKeep goal) line → At' x place (v ∷ stack) m → Holds (account t) (ChoiceAt t x (suc place) goal stack (v ∷ stack)) (SentOver t x stack) tt m (truth_of v)
+      pub false_keeps : OpIn t x place (op.JumpIfFalseKeep goal) line → IsKept x place (v ∷ stack) m → Holds (account t) (ChoiceAt t x (suc place) goal stack (v ∷ stack)) (SentOver t x stack) tt m (truth_of v)
       false_keeps l k =
           choice (op.JumpIfFalseKeep goal) (suc place) goal stack (v ∷ stack) k
           (λ p. drops s items x.since closed x.context place line x.outer (op.JumpIfFalseKeep goal) (v ∷ stack) m l k (omega arith) stack refl refl (omega arith) refl (asked k true p) k.slots.1)
           (λ p. leaps s items x.since closed x.context place line x.outer (op.JumpIfFalseKeep goal) (v ∷ stack) m l k (omega arith) (v ∷ stack) (record { goal = goal; on_jump = Some MayBeFalse; on_fall = Some MayBeTrue }) refl fits (omega arith) (asked k false p) k.slots)
 
-      pub true_keeps : OpIn t x place (op.JumpIfTrueKeep goal) line → At' x place (v ∷ stack) m → Holds (account t) (ChoiceAt t x goal (suc place) (v ∷ stack) stack) (SentOver t x stack) tt m (truth_of v)
+      pub true_keeps : OpIn t x place (op.JumpIfTrueKeep goal) line → IsKept x place (v ∷ stack) m → Holds (account t) (ChoiceAt t x goal (suc place) (v ∷ stack) stack) (SentOver t x stack) tt m (truth_of v)
       true_keeps l k =
           choice (op.JumpIfTrueKeep goal) goal (suc place) (v ∷ stack) stack k
           (λ p. leaps s items x.since closed x.context place line x.outer (op.JumpIfTrueKeep goal) (v ∷ stack) m l k (omega arith) (v ∷ stack) (record { goal = goal; on_jump = Some MayBeTrue; on_fall = Some MayBeFalse }) refl fits (omega arith) (asked k true p) k.slots)
           (λ p. drops s items x.since closed x.context place line x.outer (op.JumpIfTrueKeep goal) (v ∷ stack) m l k (omega arith) stack refl refl (omega arith) refl (asked k false p) k.slots.1)
 
-      pub true_leaves : OpIn t x place (op.JumpIfTrue goal) line → At' x place (v ∷ stack) m → Holds (account t) (ChoiceAt t x goal (suc place) stack stack) (SentOver t x stack) tt m (truth_of v)
+      pub true_leaves : OpIn t x place (op.JumpIfTrue goal) line → IsKept x place (v ∷ stack) m → Holds (account t) (ChoiceAt t x goal (suc place) stack stack) (SentOver t x stack) tt m (truth_of v)
       true_leaves l k =
           choice (op.JumpIfTrue goal) goal (suc place) stack stack k
           (λ p. leaps s items x.since closed x.context place line x.outer (op.JumpIfTrue goal) (v ∷ stack) m l k (omega arith) stack (record { goal = goal; on_jump = Some MayBeTrue; on_fall = Some MayBeFalse }) refl fits (omega arith) (asked k true p) k.slots.1)

@@ -41,7 +41,8 @@ use Rattle.world_covering.specs.Modules.{Settings, source_of}
 use Rattle.world_covering.specs.Keeping.{IsSeated, Entry, Kept}
 use Rattle.world_covering.specs.Covering.{IsEnding}
 use Rattle.world_covering.proofs.Built.{IsBuilt, same_body}
-use Rattle.world_covering.proofs.Following.{s, p, error, t, steps}
+use Rattle.world_covering.proofs.Following as following
+use Rattle.world_covering.proofs.Following.{steps}
 use Rattle.world_covering.proofs.Growing.{grows_self}
 use Rattle.world_covering.proofs.Trails.{IsTold, lasts}
 
@@ -52,16 +53,16 @@ some_first : (xs : List Op) (k : ℕ) (o : Op) → slice_get xs k ≡ Some o →
 some_first [] k o e = cc
 some_first (x ∷ xs) k o e = refl
 
-module _ (m : Module) (stubs : List (List ℕ × Stub)) (settings : Settings) (items : List Item) (closed : IsClosed (source_of m stubs settings) items) (only : OnlyOps (IsBuilt (length m.names)) (body_code (in_module (error m stubs settings items closed)) m.body))
+module _ (m : Module) (stubs : List (List ℕ × Stub)) (settings : Settings) (items : List Item) (closed : IsClosed (source_of m stubs settings) items) (only : OnlyOps (IsBuilt (length m.names)) (body_code (in_module (following.error m stubs settings items closed)) m.body))
     (plain : IsPlainBody m.body) (leaves : MayStand false (jumps false m.body)) where
   abbrev trail : Trail
-  trail = t m stubs settings items closed
+  trail = following.trail m stubs settings items closed
 
   abbrev meant : Program
-  meant = p m stubs settings items closed
+  meant = following.meant m stubs settings items closed
 
   abbrev error_number : ℕ
-  error_number = error m stubs settings items closed
+  error_number = following.error m stubs settings items closed
 
   -- the module begins with nothing
   abbrev at_start : Entry
@@ -87,13 +88,13 @@ module _ (m : Module) (stubs : List (List ℕ × Stub)) (settings : Settings) (i
   main_there : Contains items (a_context main)
   main_there = closed.has _ of_module
 
-  begun : Kept (s m stubs settings items closed) items main at_start 0 [] no_memory
+  begun : Kept (following.source m stubs settings items closed) items main at_start 0 [] no_memory
   begun =
       record {
         here = refl;
         context = main_there;
         shapes = nothing;
-        walk = begin_walk (both (is_some (op_at (s m stubs settings items closed).program main 0)) (has_context items main) (some_first (module_code error_number m.body).ops piece.size op.End at_end) (item_context items main main_there));
+        walk = begin_walk (both (is_some (op_at (following.source m stubs settings items closed).program main 0)) (has_context items main) (some_first (module_code error_number m.body).ops piece.size op.End at_end) (item_context items main main_there));
         point = record { code = module_code error_number m.body; of = refl; has_depth = begins (omega (arith, lies.fits)) };
         slots = tt;
         globals = λ n v e. cc;
@@ -109,10 +110,10 @@ module _ (m : Module) (stubs : List (List ℕ × Stub)) (settings : Settings) (i
   abbrev Left : Unit {0} → Memory → Value → Type 0
   Left = SentOver trail top []
 
-  ending : (n : ℕ) (v : Value) (mem : Memory) → Kept (s m stubs settings items closed) items main at_start piece.size [] mem → entry mem.scope.globals n ≡ Some v → IsEnding (s m stubs settings items closed) items mem.heap n v
+  ending : (n : ℕ) (v : Value) (mem : Memory) → Kept (following.source m stubs settings items closed) items main at_start piece.size [] mem → entry mem.scope.globals n ≡ Some v → IsEnding (following.source m stubs settings items closed) items mem.heap n v
   ending n v mem k e =
       let y : IsSeated k.shapes mem.heap (global n) v = k.globals n v e in
-      let seen : Visible (world_of (s m stubs settings items closed) items) (at main piece.size 0) (Rattle.world_rules.specs.Items.map_of (global n ∷ []) (y.shape ∷ [])) =
+      let seen : Visible (world_of (following.source m stubs settings items closed) items) (at main piece.size 0) (Rattle.world_rules.specs.Items.map_of (global n ∷ []) (y.shape ∷ [])) =
       record { memory = k.shapes; walk = k.walk; holds = record { at = within k.shapes (global n ∷ []) (y.shape ∷ []) (y.has, tt) } } in
       record {
         shape = y.shape;
@@ -126,10 +127,10 @@ module _ (m : Module) (stubs : List (List ℕ × Stub)) (settings : Settings) (i
         stands = y.stands;
       }
     where
-      begun_depth : Kept (s m stubs settings items closed) items main at_start piece.size [] mem → HasDepth (module_code error_number m.body) piece.size 0
+      begun_depth : Kept (following.source m stubs settings items closed) items main at_start piece.size [] mem → HasDepth (module_code error_number m.body) piece.size 0
       begun_depth k = let same : k.point.code ≡ module_code error_number m.body = Rattle.world_covering.proofs.Seats.some_same (sym k.point.of) in subst (λ z. HasDepth z piece.size 0) same k.point.has_depth
 
-  names_go : (names : List ℕ) (mem : Memory) → Kept (s m stubs settings items closed) items main at_start piece.size [] mem → Holds (account trail) Ended Left tt mem (tell_names names)
+  names_go : (names : List ℕ) (mem : Memory) → Kept (following.source m stubs settings items closed) items main at_start piece.size [] mem → Holds (account trail) Ended Left tt mem (tell_names names)
   names_go [] mem k = k
   names_go (n ∷ names) mem k = one (entry mem.scope.globals n) refl (names_go names mem k)
     where
@@ -166,13 +167,13 @@ module _ (m : Module) (stubs : List (List ℕ × Stub)) (settings : Settings) (i
   answer_goes : (n : ℕ) (choices : List ℕ) → HoldsAfter (account trail) Ended Left (answer m stubs n choices [])
   unfolding answer
   answer_goes n choices =
-      runs_hold (account trail) (lasts (s m stubs settings items closed) items (length m.names)) meant (λ q way g mem always asked. turns_go q way g mem asked) Ended Left n (then_do (module_action meant) (make_calls meant [])) tt (start n choices)
-      (All-nil (λ e. IsTold (s m stubs settings items closed) items (length m.names) [] e)) module_goes
+      runs_hold (account trail) (lasts (following.source m stubs settings items closed) items (length m.names)) meant (λ q way g mem always asked. turns_go q way g mem asked) Ended Left n (then_do (module_action meant) (make_calls meant [])) tt (start n choices)
+      (All-nil (λ e. IsTold (following.source m stubs settings items closed) items (length m.names) [] e)) module_goes
 
-  each_told : (a : Answer (Unit {0})) → HoldsAfter (account trail) Ended Left a → All (IsTold (s m stubs settings items closed) items (length m.names) (run_of a).heap) (run_of a).events
+  each_told : (a : Answer (Unit {0})) → HoldsAfter (account trail) Ended Left a → All (IsTold (following.source m stubs settings items closed) items (length m.names) (run_of a).heap) (run_of a).events
   each_told (gave u z) h = h.1
   each_told (raised v z) h = h.1
   each_told (stopped why z) h = h.1
 
-  pub run_told : (n : ℕ) (choices : List ℕ) → All (IsTold (s m stubs settings items closed) items (length m.names) (run_of (answer m stubs n choices [])).heap) (run_of (answer m stubs n choices [])).events
+  pub run_told : (n : ℕ) (choices : List ℕ) → All (IsTold (following.source m stubs settings items closed) items (length m.names) (run_of (answer m stubs n choices [])).heap) (run_of (answer m stubs n choices [])).events
   run_told n choices = each_told (answer m stubs n choices []) (answer_goes n choices)
