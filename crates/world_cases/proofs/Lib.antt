@@ -1,0 +1,9 @@
+pub mod Pairs
+pub mod Few
+pub mod Tables
+pub mod Walked
+pub mod Closing
+pub mod Traces
+pub mod Standing
+pub mod Telling
+pub mod Samples
