@@ -1,0 +1,20 @@
+//! Counts of work on generated input, whose times are taken from outside.
+#![tactic(auto)]
+
+mod benchmark;
+mod draft;
+mod graphs;
+mod lists;
+mod queries;
+mod shapes;
+mod told;
+mod texts;
+mod words;
+
+use anyhow::Result;
+use std::env;
+
+fn main(rt: HostRuntime) -> Result<()> {
+    let words: Vec<String> = env::args(&rt)?.skip(1).collect(rt.alloc())?;
+    words::run(&rt, words.as_slice())
+}
