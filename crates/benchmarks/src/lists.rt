@@ -37,7 +37,7 @@ fn all_below(alloc: Global, count: u32) -> Result<ShapeSet, AllocError> {
 }
 
 /// The type of so many lists, each of which holds all of them.
-pub fn printed(alloc: Global, count: u32) -> Result<Printed> {
+pub fn print_all(alloc: Global, count: u32) -> Result<Printed> {
     let shapes = interned(alloc, count)?;
     let joined = held(alloc, count)?;
     let set = all_below(alloc, count)?;

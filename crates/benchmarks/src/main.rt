@@ -5,9 +5,9 @@ mod benchmark;
 mod draft;
 mod graphs;
 mod lists;
+mod putting;
 mod queries;
 mod shapes;
-mod told;
 mod texts;
 mod words;
 

@@ -77,7 +77,13 @@ fn told_by<L: Ledger>(alloc: Global, query: &Query, blank: Blank) -> Result<Told
     let set = asked(alloc, query, &goals, &mut steps)?;
     let unset = asked(alloc, query, &more, &mut steps)?;
     let enough = is_heavy(alloc, query, &goals, query.states, &mut steps)?;
-    let few = is_heavy(alloc, query, &goals, query.states.saturating_sub(1), &mut steps)?;
+    let few = is_heavy(
+        alloc,
+        query,
+        &goals,
+        query.states.saturating_sub(1),
+        &mut steps,
+    )?;
     Ok(Told {
         set,
         unset,

@@ -98,7 +98,7 @@ fn instructions(program: &Program) -> usize {
 }
 
 /// The counts of so many KiB of a pattern.
-pub fn counts(alloc: Global, pattern: Pattern, size: u32) -> Result<Counts> {
+pub fn count_text(alloc: Global, pattern: Pattern, size: u32) -> Result<Counts> {
     let bytes = (size as usize).saturating_mul(1024).min(LONGEST);
     let text = text_of(alloc, pattern, bytes)?;
     let (tokens, module) = tree_of(alloc, text.as_str())?;

@@ -1,14 +1,14 @@
 //! What the words of a call ask for.
 use crate::benchmark::{BENCHMARKS, Named};
-use crate::told::put;
+use crate::putting::put;
 use anyhow::{Result, bail};
 
-fn named(word: &str) -> Option<Named> {
+fn found(word: &str) -> Option<Named> {
     BENCHMARKS.iter().copied().find(|named| named.name == word)
 }
 
 fn run_one(rt: &HostRuntime, name: &str, size: &str) -> Result<()> {
-    let Some(named) = named(name) else {
+    let Some(named) = found(name) else {
         bail!("no benchmark of this name: {name}");
     };
     put(rt, named, size.parse::<u32>()?)

@@ -1,10 +1,10 @@
 //! What is printed of each benchmark.
 use crate::benchmark::{Benchmark, Named};
 use crate::graphs::{edges, facts, line, tests};
-use crate::lists::{Printed, printed};
+use crate::lists::{Printed, print_all};
 use crate::queries::{Query, Tally, Told};
 use crate::shapes::{entries, interned, places};
-use crate::texts::{Counts, Pattern, counts};
+use crate::texts::{Counts, Pattern, count_text};
 use anyhow::Result;
 
 /// How many states a solver may meet that is asked at each point of a line.
@@ -39,7 +39,7 @@ fn put_tally(rt: &HostRuntime, query: &Query, budget: u32) -> Result<()> {
 }
 
 fn put_printed(rt: &HostRuntime, lists: u32) -> Result<()> {
-    let Printed { entries, bytes } = printed(rt.alloc(), lists)?;
+    let Printed { entries, bytes } = print_all(rt.alloc(), lists)?;
     println!(rt; "  {entries} entries, a type of {bytes} bytes")?;
     Ok(())
 }
@@ -49,7 +49,7 @@ fn put_text(rt: &HostRuntime, pattern: Pattern, size: u32) -> Result<()> {
         bytes,
         tokens,
         instructions,
-    } = counts(rt.alloc(), pattern, size)?;
+    } = count_text(rt.alloc(), pattern, size)?;
     println!(rt; "  {bytes} bytes, {tokens} tokens, {instructions} instructions")?;
     Ok(())
 }
