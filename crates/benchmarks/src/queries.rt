@@ -10,7 +10,7 @@ use place_ids::{Id, PointId};
 use std::alloc::{AllocError, Global};
 use std::marker::Brand;
 use std::sync::ledger::{Blank, Ledger};
-use typegraph::{Binding, GoalMap};
+use typegraph::{Binding, GoalMap, Graph};
 
 /// A graph, what is wanted at one of its points, a pair of a variable that nothing sets, and how many states are reached from the query.
 #[derive(Drop)]
@@ -96,15 +96,14 @@ fn told_by<L: Ledger>(alloc: Global, query: &Query, blank: Blank) -> Result<Told
 fn tell<L: Ledger>(
     tally: &mut Tally,
     solver: &mut Solver,
-    query: &Query,
+    graph: &Graph,
+    point: PointId,
     goals: &GoalMap,
-    number: u32,
     steps: &mut Steps<L>,
 ) -> Result<(), AllocError>
-    requires { IsSound solver.old query.now.draft.graph }
-    ensures { IsSound solver.new query.now.draft.graph }
+    requires { IsSound solver.old graph.now }
+    ensures { IsSound solver.new graph.now }
 {
-    let (graph, point) = (query.draft.graph(), PointId::new(number));
     if solver.ask(graph, point, goals, steps)? == Answer::Yes {
         tally.visible = tally.visible.saturating_add(1);
     }
@@ -124,8 +123,10 @@ fn tally_by<L: Ledger>(alloc: Global, query: &Query, budget: u32, blank: Blank) 
         visible: 0,
         heavy: 0,
     };
+    let graph = query.draft.graph();
     for number in 0..query.draft.points() {
-        tell(&mut tally, &mut solver, query, &goals, number, &mut steps)?;
+        let point = PointId::new(number);
+        tell(&mut tally, &mut solver, graph, point, &goals, &mut steps)?;
     }
     Ok(tally)
 }
