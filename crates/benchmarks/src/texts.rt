@@ -9,7 +9,7 @@ use py_tree::Module;
 use std::alloc::{AllocError, Global};
 
 /// A text has at most so many bytes.
-const LONGEST: usize = 262144;
+const LONGEST: u32 = 262144;
 
 /// What a text repeats, line by line.
 #[derive(Clone, Copy)]
@@ -59,11 +59,11 @@ impl Pattern {
 }
 
 // Lines of a pattern, as long as each further one is sure to fit.
-fn text_of(alloc: Global, pattern: Pattern, bytes: usize) -> Result<String, AllocError> {
+fn text_of(alloc: Global, pattern: Pattern, bytes: u32) -> Result<String, AllocError> {
     let mut text = String::new(alloc);
     text.push_str(pattern.head())?;
-    for number in 0..bytes as u32 {
-        if text.len().saturating_add(28) > bytes {
+    for number in 0..bytes {
+        if text.len().saturating_add(28) > bytes as usize {
             break;
         }
         pattern.put_line(&mut text, number)?;
@@ -72,7 +72,7 @@ fn text_of(alloc: Global, pattern: Pattern, bytes: usize) -> Result<String, Allo
 }
 
 fn tree_of(alloc: Global, text: &str) -> Result<(usize, Module)> {
-    if text.len() > LONGEST {
+    if text.len() > LONGEST as usize {
         bail!("a text that is too long");
     }
     let tokens = tokens(alloc, text)?;
@@ -99,7 +99,7 @@ fn instructions(program: &Program) -> usize {
 
 /// The counts of so many KiB of a pattern.
 pub fn count_text(alloc: Global, pattern: Pattern, size: u32) -> Result<Counts> {
-    let bytes = (size as usize).saturating_mul(1024).min(LONGEST);
+    let bytes = size.saturating_mul(1024).min(LONGEST);
     let text = text_of(alloc, pattern, bytes)?;
     let (tokens, module) = tree_of(alloc, text.as_str())?;
     let program = program_of(alloc, module)?;

@@ -1,5 +1,5 @@
 use Rattle.std.proofs.Common.{◌≡◌}
-use Rattle.benchmarks_shapes.proofs.shapes.printed_length.Given as goal
+use Rattle.benchmarks.proofs.lists.all_below.Given as goal
 
 abbrev pub invariant-loop-number : goal.invariant-loop-number
 invariant-loop-number l = l.set.width ≡ l.count
