@@ -1,5 +1,5 @@
 -- The scopes that are answered for a module are its own.
-use Rattle.std.proofs.Common.{◌≡◌, ◌⊎◌, inl, inr, Option, Some, None, Result, Ok, Err, absurd}
+use Rattle.std.proofs.Common.{◌≡◌, ◌⊎◌, inl, inr, Option, Some, None, Result, Ok, Err}
 use Rattle.scope_rules.specs.declared.fault.Fault.{Fault}
 use Rattle.scope_rules.specs.declared.scope_fault.ScopeFault.{ScopeFault}
 use Rattle.scope_rules.specs.declared.scope_fault.ScopeFault.TheVariants as fault
