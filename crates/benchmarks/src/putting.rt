@@ -5,12 +5,14 @@ use crate::lists::{Printed, print_all};
 use crate::queries::{Query, Tally, Told};
 use crate::shapes::{entries, interned, places};
 use crate::texts::{Counts, Pattern, count_text};
-use anyhow::Result;
+use anyhow::{Result, ensure};
 
 /// How many states a solver may meet that is asked at each point of a line.
 const FEW: u32 = 100;
 
+// What a graph has, if nothing of it was refused.
 fn put_graph(rt: &HostRuntime, query: &Query) -> Result<()> {
+    ensure!(query.draft.is_whole(), "a graph that is not whole");
     let (points, edges) = (query.draft.points(), query.draft.edges());
     let facts = query.draft.facts();
     println!(rt; "  {points} points, {edges} edges, {facts} facts")?;

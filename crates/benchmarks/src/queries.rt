@@ -3,7 +3,7 @@ ghost use Rattle.std.specs.Prelude.{◌≡◌, ◌<◌};
 ghost use Rattle.goal_solver.specs.Memos.{IsSound};
 
 use crate::draft::Draft;
-use anyhow::{Result, bail, ensure};
+use anyhow::{Result, bail};
 use flow_graph::Steps;
 use goal_solver::{Answer, Solver};
 use place_ids::{Id, PointId};
@@ -145,13 +145,11 @@ impl Query {
 
     /// What solvers answer that remember nothing.
     pub fn told(&self, alloc: Global) -> Result<Told> {
-        ensure!(self.draft.is_whole(), "a graph that is not whole");
         told_by::<Brand>(alloc, self, Blank::new(1))
     }
 
     /// What one solver answers that is asked at each point of the graph, with a budget of so many states.
     pub fn tally(&self, alloc: Global, budget: u32) -> Result<Tally> {
-        ensure!(self.draft.is_whole(), "a graph that is not whole");
         tally_by::<Brand>(alloc, self, budget, Blank::new(1))
     }
 }

@@ -1,4 +1,0 @@
-use Rattle.benchmarks.proofs.queries.Query.tally.Given as goal
-
-abbrev pub ghosts-tally_by : goal.ghosts-tally_by
-ghosts-tally_by g a = record { name = a.blank.name; parts = a.blank.parts }
