@@ -34,8 +34,8 @@ module _ (error : ℕ) (m : Module) (stubs : List (List ℕ × Stub)) (faultless
   call_goes true c g s k = (tt, (otherwise tt, tt, λ o g' s' h. k))
   call_goes false c g s k = k
 
-  abbrev whole_module : Whole (depths error m.body) p
-  whole_module =
+  abbrev whole_module : (calls : List OutsideCall) → Whole (depths error m.body) p calls
+  whole_module calls =
       record {
         top = record { context = tt; since = tt; labels = no_loop; outer = None };
         lies = lies;
@@ -43,7 +43,7 @@ module _ (error : ℕ) (m : Module) (stubs : List (List ℕ × Stub)) (faultless
         first = tt;
         begins = begins (omega (arith, lies.fits));
         told = λ name v g s k e. tt;
-        outside = λ c g s k. call_goes (can_be_called p s.heap c) c g s k;
+        outside = λ c g s inside k. call_goes (can_be_called p s.heap c) c g s k;
       }
 
   lasts : Lasts (account (depths error m.body))
@@ -56,7 +56,7 @@ module _ (error : ℕ) (m : Module) (stubs : List (List ℕ × Stub)) (faultless
   Says r = HoldsAfter (account (depths error m.body)) (λ g s u. HasDepth (module_code error m.body) (body_code (in_module error) m.body).size 0) (λ g s v. RaisesTo (module_code error m.body) None) r
 
   says : (n : ℕ) (choices : List ℕ) (calls : List OutsideCall) → Says (answer m stubs n choices calls)
-  says n choices calls = answers_go (depths error m.body) m stubs (depth_steps error m.body p) whole_module lasts others n choices calls
+  says n choices calls = answers_go (depths error m.body) m stubs calls (depth_steps error m.body p) (whole_module calls) lasts others n choices
 
   end_of_stop : (why : Stop) → ending_of why ≡ ended → ⊥
   end_of_stop out_of_turns e = cc

@@ -1,6 +1,7 @@
 -- A run of a module goes along its code, turn by turn, to its end or to where an exception leaves it.
-use Rattle.std.proofs.Common.{◌≡◌, ℕ, suc, ◌+◌, true, false, Option, Some, None, List, [], ◌∷◌, slice_get, refl, arith}
-use Rattle.std.proofs.lemmas.List.Elements.{All-nil}
+use Rattle.std.proofs.Common.{◌≡◌, ℕ, zero, suc, ◌+◌, true, false, Option, Some, None, List, [], ◌∷◌, slice_get, refl, arith}
+use Rattle.std.specs.List.{Contains}
+use Rattle.std.proofs.lemmas.List.Elements.{All-nil, Contains-append_right}
 use Rattle.py_tree.specs.declared.literal.Literal.TheVariants as literal
 use Rattle.py_tree.specs.Tree.{Stmts, Module}
 use Rattle.type_terms.specs.Stubs.{Stub}
@@ -60,7 +61,7 @@ module _ (t : Trail) (p : Program) (steps : Follows t p) where
 
   -- ---- a whole module
 
-  module _ (w : Whole t p) where
+  module _ (calls : List OutsideCall) (w : Whole t p calls) where
     abbrev end : ℕ
     end = end_of t p w.top
 
@@ -78,9 +79,11 @@ module _ (t : Trail) (p : Program) (steps : Follows t p) where
         one None e h = h
         one (Some v) e h = (w.told n v g m k e, h)
 
-    calls_go : (calls : List OutsideCall) (g : t.Kept) (m : Memory) → At t w.top end [] g m → Holds (account t) Ended Left g m (make_calls p calls)
-    calls_go [] g m k = k
-    calls_go (c ∷ calls) g m k = holds_then (account t) Ended Ended Left (looks (λ m. call_if (can_be_called p m.heap c) c)) (make_calls p calls) g m (w.outside c g m k) (λ u g1 m1 k1. calls_go calls g1 m1 k1)
+    calls_go : (some : List OutsideCall) → ((c : OutsideCall) → Contains some c → Contains calls c) → (g : t.Kept) (m : Memory) → At t w.top end [] g m → Holds (account t) Ended Left g m (make_calls p some)
+    calls_go [] among g m k = k
+    calls_go (c ∷ some) among g m k =
+        holds_then (account t) Ended Ended Left (looks (λ m. call_if (can_be_called p m.heap c) c)) (make_calls p some) g m (w.outside c g m (among c (zero, omega arith, refl)) k)
+        (λ u g1 m1 k1. calls_go some (λ d inside. among d (Contains-append_right (c ∷ []) some d inside)) g1 m1 k1)
 
     ended_goes : (flow : Flow) (g : t.Kept) (m : Memory) → FlowAt t (module_round t w.top) end g m flow → Holds (account t) Ended Left g m (tell_names (printed p))
     ended_goes goes_on g m k = names_go (printed p) g m k
@@ -88,18 +91,18 @@ module _ (t : Trail) (p : Program) (steps : Follows t p) where
     ended_goes continues g m k = let z : ⊥ = cc in absurd z
     ended_goes (returns v) g m k = let z : ⊥ = cc in absurd z
 
-    module_goes : (calls : List OutsideCall) → Holds (account t) Ended Left w.first no_memory (then_do (module_action p) (make_calls p calls))
-    module_goes calls =
+    module_goes : Holds (account t) Ended Left w.first no_memory (then_do (module_action p) (make_calls p calls))
+    module_goes =
         holds_then (account t) Ended Ended Left (module_action p) (make_calls p calls) w.first no_memory
         (holds_bind (account t) (FlowAt t (module_round t w.top) end) Ended Left (exec_all p p.body) (λ flow. tell_names (printed p)) w.first no_memory (body_goes t p steps p.body (module_round t w.top) 0 end w.first no_memory w.leaves (omega arith) w.lies w.begins) (λ flow g m k. ended_goes flow g m k))
-        (λ u g m k. calls_go calls g m k)
+        (λ u g m k. calls_go calls (λ c inside. inside) g m k)
 
-    pub runs_go : Lasts (account t) → OthersGo t p → (n : ℕ) (choices : List ℕ) (calls : List OutsideCall) → HoldsAfter (account t) Ended Left (carry_out (turns_within p n) (then_do (module_action p) (make_calls p calls)) (start n choices))
-    runs_go lasts others n choices calls =
-        runs_hold (account t) lasts p (turns_perform others) Ended Left n (then_do (module_action p) (make_calls p calls)) w.first (start n choices) (All-nil (t.Told w.first no_memory)) (module_goes calls)
+    pub runs_go : Lasts (account t) → OthersGo t p → (n : ℕ) (choices : List ℕ) → HoldsAfter (account t) Ended Left (carry_out (turns_within p n) (then_do (module_action p) (make_calls p calls)) (start n choices))
+    runs_go lasts others n choices =
+        runs_hold (account t) lasts p (turns_perform others) Ended Left n (then_do (module_action p) (make_calls p calls)) w.first (start n choices) (All-nil (t.Told w.first no_memory)) module_goes
 
 -- Every answer of a run of the module holds, as far as steps, ends and other turns do.
-pub answers_go : (t : Trail) (m : Module) (stubs : List (List ℕ × Stub)) → Follows t (program m stubs) → (w : Whole t (program m stubs)) → Lasts (account t) → OthersGo t (program m stubs) → (n : ℕ) (choices : List ℕ) (calls : List OutsideCall) →
+pub answers_go : (t : Trail) (m : Module) (stubs : List (List ℕ × Stub)) (calls : List OutsideCall) → Follows t (program m stubs) → (w : Whole t (program m stubs) calls) → Lasts (account t) → OthersGo t (program m stubs) → (n : ℕ) (choices : List ℕ) →
     HoldsAfter (account t) (DoneAt t w.top (end_of t (program m stubs) w.top) []) (SentOver t w.top []) (answer m stubs n choices calls)
 unfolding answer
-answers_go t m stubs steps w lasts others n choices calls = runs_go t (program m stubs) steps w lasts others n choices calls
+answers_go t m stubs calls steps w lasts others n choices = runs_go t (program m stubs) steps calls w lasts others n choices

@@ -1,5 +1,6 @@
 -- What a run of a whole module has to give, beside what its instructions do: where it begins, what is told at its end, and turns that are no loops'.
-use Rattle.std.specs.Prelude.{◌≡◌, ℕ, true, false, [], Some}
+use Rattle.std.specs.Prelude.{◌≡◌, ℕ, true, false, List, [], Some}
+use Rattle.std.specs.List.{Contains}
 use Rattle.scope_rules.specs.Jumps.{jumps}
 use Rattle.tree_code.specs.Statements.{body_code}
 use Rattle.py_meaning.specs.Values.{Value, entry}
@@ -27,7 +28,7 @@ module _ (t : Trail) where
     abbrev pub end_of : Around t → ℕ
     end_of top = (body_code (place_of t (module_round top)) p.body).size
 
-    pub record Whole : Type 0 where
+    pub record Whole (calls : List OutsideCall) : Type 0 where
       pub top : Around t
       pub lies : LiesIn t top 0 (body_code (place_of t (module_round top)) p.body)
       pub leaves : MayStand false (jumps false p.body)
@@ -35,8 +36,8 @@ module _ (t : Trail) where
       pub begins : At t top 0 [] first no_memory
       -- what a name holds at the end
       pub told : (name : ℕ) (v : Value) (g : t.Kept) (m : Memory) → At t top (end_of top) [] g m → entry m.scope.globals name ≡ Some v → t.Told g m (held name v)
-      -- calls from outside, after the end
-      pub outside : (c : OutsideCall) (g : t.Kept) (m : Memory) → At t top (end_of top) [] g m → Holds (account t) (DoneAt t top (end_of top) []) (SentOver t top []) g m (looks (λ m. call_if (can_be_called p m.heap c) c))
+      -- each of these calls from outside, after the end
+      pub outside : (c : OutsideCall) (g : t.Kept) (m : Memory) → Contains calls c → At t top (end_of top) [] g m → Holds (account t) (DoneAt t top (end_of top) []) (SentOver t top []) g m (looks (λ m. call_if (can_be_called p m.heap c) c))
 
     -- what is done in a turn that is made otherwise
     abbrev pub OthersGo : Type 0

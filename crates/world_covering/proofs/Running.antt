@@ -1,12 +1,12 @@
 -- A run of a module of the covered forms, turn by turn, to its end: each event is told rightly.
-use Rattle.std.proofs.Common.{◌≡◌, ℕ, Bool, true, false, ◌&&◌, is_some, Option, Some, None, List, [], ◌∷◌, length, slice_get, inl, refl, sym, subst, arith}
+use Rattle.std.proofs.Common.{◌≡◌, ℕ, Bool, true, false, ◌&&◌, is_some, Some, None, List, [], ◌∷◌, length, slice_get, inl, refl, sym, subst, arith}
 use Rattle.std.specs.Prelude.{IsTrue}
 use Rattle.std.specs.List.{Contains, All}
-use Rattle.std.proofs.lemmas.List.Elements.{All-nil}
 use Rattle.py_tree.specs.Tree.{Module}
 use Rattle.type_terms.specs.Stubs.{Stub}
 use Rattle.scope_rules.specs.Jumps.{jumps}
 use Rattle.graph_walks.specs.Worlds.{nothing}
+use Rattle.graph_walks.proofs.Lists.{empty}
 use Rattle.graph_walks.specs.Walks.{start as begin_walk, Visible}
 use Rattle.stack_code.specs.declared.op.Op.{Op}
 use Rattle.stack_code.specs.declared.op.Op.TheVariants as op
@@ -22,20 +22,16 @@ use Rattle.world_rules.specs.Rules.{of_module, IsClosed}
 use Rattle.world_rules.proofs.Extending.{within}
 use Rattle.world_rules.proofs.Members.{item_context}
 use Rattle.py_meaning.specs.Values.{Value, entry}
-use Rattle.py_meaning.specs.Programs.{Program, printed}
-use Rattle.py_meaning.specs.Statements.{exec_all}
-use Rattle.py_meaning.specs.Calls.{perform}
-use Rattle.py_meaning.specs.Actions.{Memory, Flow, goes_on, breaks, continues, returns, Request, call, while_turn, for_turn, outside_call, then_do}
-use Rattle.py_meaning.specs.Runs.{start, no_memory, tell_if, tell_names, module_action, make_calls, Answer, gave, raised, stopped, run_of, answer}
-use Rattle.py_meaning.specs.Holds.{Holds, HoldsAfter}
-use Rattle.py_meaning.proofs.Holding.{holds_bind, holds_then, GaveInside, RaisedInside, runs_hold}
+use Rattle.py_meaning.specs.Programs.{Program}
+use Rattle.py_meaning.specs.Actions.{Memory}
+use Rattle.py_meaning.specs.Runs.{no_memory, Answer, gave, raised, stopped, run_of, answer}
+use Rattle.py_meaning.specs.Holds.{HoldsAfter}
 use Rattle.tree_covering.specs.Leaving.{MayStand}
-use Rattle.tree_covering.specs.Trails.{Trail, Around, LiesIn, DoneAt, SentOver, FlowAt}
-use Rattle.tree_covering.specs.Turns.{TurnWay, of_loop, otherwise, TurnAsked, account}
-use Rattle.tree_covering.specs.Modules.{module_round}
-use Rattle.tree_covering.proofs.Loops.{while_inner, while_back, while_body_lies, while_performs, for_inner, for_start, for_back, for_body_lies, for_performs}
+use Rattle.tree_covering.specs.Trails.{Trail, Around, LiesIn, DoneAt, SentOver}
+use Rattle.tree_covering.specs.Turns.{account}
+use Rattle.tree_covering.specs.Modules.{Whole}
 use Rattle.tree_covering.proofs.OnlyOps.{OnlyOps}
-use Rattle.tree_covering.proofs.Statements.{body_goes}
+use Rattle.tree_covering.proofs.Running.{answers_go}
 use Rattle.world_covering.specs.Forms.{IsPlainBody}
 use Rattle.world_covering.specs.Modules.{Settings, source_of}
 use Rattle.world_covering.specs.Keeping.{IsSeated, Entry, Kept}
@@ -130,45 +126,23 @@ module _ (m : Module) (stubs : List (List ℕ × Stub)) (settings : Settings) (i
       begun_depth : Kept (following.source m stubs settings items closed) items main at_start piece.size [] mem → HasDepth (module_code error_number m.body) piece.size 0
       begun_depth k = let same : k.point.code ≡ module_code error_number m.body = Rattle.world_covering.proofs.Seats.some_same (sym k.point.of) in subst (λ z. HasDepth z piece.size 0) same k.point.has_depth
 
-  names_go : (names : List ℕ) (mem : Memory) → Kept (following.source m stubs settings items closed) items main at_start piece.size [] mem → Holds (account trail) Ended Left tt mem (tell_names names)
-  names_go [] mem k = k
-  names_go (n ∷ names) mem k = one (entry mem.scope.globals n) refl (names_go names mem k)
-    where
-      one : (o : Option Value) → entry mem.scope.globals n ≡ o → Holds (account trail) Ended Left tt mem (tell_names names) → Holds (account trail) Ended Left tt mem (tell_if n o (tell_names names))
-      one None e h = h
-      one (Some v) e h = (ending n v mem k e, h)
+  abbrev whole : Whole trail meant []
+  whole =
+      record {
+        top = top;
+        lies = lies;
+        leaves = leaves;
+        first = tt;
+        begins = begun;
+        told = λ n v g mem k e. ending n v mem k e;
+        outside = λ c g mem inside k. absurd (empty c inside);
+      }
 
-  -- ---- turns are those of loops
-
-  turns_go : (q : Request) (way : TurnWay trail q) (g : Unit {0}) (mem : Memory) → TurnAsked trail q way g mem → Holds (account trail) (GaveInside (account trail) q way g mem) (RaisedInside (account trail) q way g mem) g mem (perform meant q)
-  turns_go (while_turn test body) (of_loop w) g mem asked =
-      while_performs trail meant (steps m stubs settings items closed only) test body w (λ g1 m1 k1. body_goes trail meant (steps m stubs settings items closed only) body (while_inner trail meant (steps m stubs settings items closed only) test body w) _ (while_back trail meant (steps m stubs settings items closed only) test body w) g1 m1 w.leaves refl (while_body_lies trail meant (steps m stubs settings items closed only) test body w) k1) g mem asked
-  turns_go (for_turn target body line v u) (of_loop w) g mem asked =
-      for_performs trail meant (steps m stubs settings items closed only) target body line w v (λ g1 m1 k1. body_goes trail meant (steps m stubs settings items closed only) body (for_inner trail meant (steps m stubs settings items closed only) target body line w v) (for_start trail meant (steps m stubs settings items closed only) target body line w v) (for_back trail meant (steps m stubs settings items closed only) target body line w v) g1 m1 w.leaves refl (for_body_lies trail meant (steps m stubs settings items closed only) target body line w v) k1) u g mem asked
-  turns_go (call f given site line) (of_loop w) g mem asked = absurd w
-  turns_go (outside_call c) (of_loop w) g mem asked = absurd w
-  turns_go q (otherwise w) g mem asked = absurd w
-
-  -- ---- the run
-
-  ended_goes : (flow : Flow) (mem : Memory) → FlowAt trail (module_round trail top) piece.size tt mem flow → Holds (account trail) Ended Left tt mem (tell_names (printed meant))
-  ended_goes goes_on mem k = names_go (printed meant) mem k
-  ended_goes breaks mem k = let z : ⊥ = cc in absurd z
-  ended_goes continues mem k = let z : ⊥ = cc in absurd z
-  ended_goes (returns v) mem k = absurd k.1
-
-  module_goes : Holds (account trail) Ended Left tt no_memory (then_do (module_action meant) (make_calls meant []))
-  module_goes =
-      holds_then (account trail) Ended Ended Left (module_action meant) (make_calls meant []) tt no_memory
-      (holds_bind (account trail) (FlowAt trail (module_round trail top) piece.size) Ended Left (exec_all meant meant.body) (λ flow. tell_names (printed meant)) tt no_memory
-      (body_goes trail meant (steps m stubs settings items closed only) meant.body (module_round trail top) 0 piece.size tt no_memory leaves (omega arith) lies begun) (λ flow g mem k. ended_goes flow mem k))
-      (λ u g mem k. k)
+  -- ---- the run, whose turns are those of loops
 
   answer_goes : (n : ℕ) (choices : List ℕ) → HoldsAfter (account trail) Ended Left (answer m stubs n choices [])
-  unfolding answer
   answer_goes n choices =
-      runs_hold (account trail) (lasts (following.source m stubs settings items closed) items (length m.names)) meant (λ q way g mem always asked. turns_go q way g mem asked) Ended Left n (then_do (module_action meant) (make_calls meant [])) tt (start n choices)
-      (All-nil (λ e. IsTold (following.source m stubs settings items closed) items (length m.names) [] e)) module_goes
+      answers_go trail m stubs [] (steps m stubs settings items closed only) whole (lasts (following.source m stubs settings items closed) items (length m.names)) (λ q way g mem always asked. absurd way) n choices
 
   each_told : (a : Answer (Unit {0})) → HoldsAfter (account trail) Ended Left a → All (IsTold (following.source m stubs settings items closed) items (length m.names) (run_of a).heap) (run_of a).events
   each_told (gave u z) h = h.1
