@@ -1,7 +1,7 @@
 -- What holds of what a call leaves, whatever it answers.
-use Rattle.std.proofs.Common.{◌≡◌, ℕ, Bool, true, false, Result, Ok, Err, List, [], ◌∷◌, ◌++◌, not, refl, sym, ap, ◌∙◌}
+use Rattle.std.proofs.Common.{◌≡◌, ℕ, Bool, true, false, Result, Ok, Err, List, refl}
 use Rattle.std.specs.List.{list_any, Contains}
-use Rattle.std.specs.Result.{OnOk, OnErr, IsOk}
+use Rattle.std.specs.Result.{OnOk, OnErr}
 use Rattle.flow_graph.specs.declared.context.Context.{Context as ContextRow}
 use Rattle.flow_graph.specs.contracts.context.ContextPartialEq.TheImpl as contexts
 use Rattle.typegraph.specs.declared.goals.Binding.{Binding}

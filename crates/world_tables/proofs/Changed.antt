@@ -1,5 +1,5 @@
 -- Tables whose facts and entries change, and nothing else, stay a world's where what they have now is derived.
-use Rattle.std.proofs.Common.{◌≡◌, ◌≢◌, ℕ, ◌<◌, List, length, refl, ◌∙◌}
+use Rattle.std.proofs.Common.{◌≢◌, ℕ, ◌<◌, List, length, refl, ◌∙◌}
 use Rattle.std.specs.List.{AllPairs, Contains}
 use Rattle.graph_walks.specs.Worlds.{Edge as EdgeBetween}
 use Rattle.typegraph.specs.declared.fact.Fact.{Fact}

@@ -1,7 +1,6 @@
 -- Spots that are found equal are the same.
-use Rattle.std.proofs.Common.{rules, ◌≡◌, ◌∙◌, ℕ, ◌+◌, List, [], ◌∷◌, ◌++◌, Option, Some, None, refl, sym, ap}
-use Rattle.std.specs.List.{Contains}
-use Rattle.flow_graph.proofs.Same.{IsExact, any_false}
+use Rattle.std.proofs.Common.{rules}
+use Rattle.flow_graph.proofs.Same.{IsExact}
 use Rattle.world_tables.specs.contracts.spot.PointSpotPartialEq.TheImpl as points
 use Rattle.world_tables.specs.contracts.spot.VariableSpotPartialEq.TheImpl as variables
 

@@ -1,19 +1,16 @@
 -- A fact whose source set is a map of the bindings that were handed in is the one that the rules give.
-use Rattle.std.proofs.Common.{◌≡◌, ℕ, ◌<◌, List, [], length, slice_get, refl, sym, ap, subst, ◌∙◌}
-use Rattle.std.specs.List.{All, Contains}
+use Rattle.std.proofs.Common.{◌≡◌, ℕ, List, length, sym, subst}
+use Rattle.std.specs.List.{All}
 use Rattle.std.proofs.lemmas.List.Elements.{All-contains}
-use Rattle.graph_walks.specs.Worlds as worlds
 use Rattle.typegraph.specs.declared.fact.Fact.{Fact}
 use Rattle.typegraph.specs.declared.goals.Binding.{Binding}
-use Rattle.typegraph.specs.Maps.{look}
-use Rattle.typegraph.specs.Graphs.{with_fact, IsWithFact}
+use Rattle.typegraph.specs.Graphs.{IsWithFact}
 use Rattle.typegraph.specs.Validity as graph_validity
 use Rattle.typegraph.proofs.Clashing.{joined_look, joined_there}
 use Rattle.world_rules.specs.Sources.{Source}
 use Rattle.world_rules.specs.Items.{a_fact}
 use Rattle.world_rules.specs.Rules.{GivesAt}
 use Rattle.world_tables.specs.Tables.{Tables, the_point, the_shape, memory_at, fact_at, items_of, AreBindings, AreTables}
-use Rattle.world_tables.specs.Rows.{WorldRows, tables_of, with_graph}
 use Rattle.world_tables.proofs.Memories.{same_memory}
 use Rattle.world_tables.proofs.There.{count_vars, count_shapes}
 use Rattle.world_tables.proofs.WithFact.{fact_keeps}

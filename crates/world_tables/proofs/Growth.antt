@@ -1,5 +1,5 @@
 -- Rows that are kept well stay so where they grow, and what is said of both answers of a call.
-use Rattle.std.proofs.Common.{◌≡◌, ◌≢◌, ℕ, suc, ◌+◌, ◌<◌, ◌≤◌, Bool, true, false, Result, Ok, Err, Option, Some, None, option_map, List, [], ◌∷◌, ◌++◌, length, map, get_or, slice_get, ◌⊎◌, inl, inr, refl, sym, ap, subst, ◌∙◌, arith, length-append, add-one}
+use Rattle.std.proofs.Common.{◌≡◌, ℕ, ◌+◌, ◌<◌, ◌≤◌, Bool, Result, Ok, Err, Option, Some, None, option_map, List, [], ◌∷◌, ◌++◌, length, map, get_or, slice_get, ◌⊎◌, inl, inr, refl, sym, ap, subst, ◌∙◌, arith, length-append, add-one}
 use Rattle.std.specs.List.{Contains}
 use Rattle.std.specs.Result.{OnOk, OnErr}
 use Rattle.std.proofs.Math.Decide.{ℕ_discrete}
@@ -12,8 +12,7 @@ use Rattle.flow_graph.specs.Flows.{with_var, with_point, with_context, with_edge
 use Rattle.flow_graph.specs.Validity as flow_validity
 use Rattle.flow_graph.proofs.Valid.{pushed, length-changed_at}
 use Rattle.typegraph.specs.declared.fact.Fact.{Fact}
-use Rattle.typegraph.specs.declared.goals.Binding.{Binding}
-use Rattle.typegraph.specs.Graphs.{GraphTables, with_flow, with_row, with_fact, IsWithFact}
+use Rattle.typegraph.specs.Graphs.{GraphTables, with_flow, with_row, with_fact}
 use Rattle.typegraph.specs.Validity as graph_validity
 use Rattle.abstract_shapes.specs.declared.shape.Shape.{Shape as ShapeRow}
 use Rattle.abstract_shapes.specs.declared.table.TableRow.{TableRow}

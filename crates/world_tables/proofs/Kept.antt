@@ -1,16 +1,14 @@
 -- What rows stand for where they grow: the contexts of before, and the spots of before.
-use Rattle.std.proofs.Common.{◌≡◌, ◌≢◌, ℕ, suc, zero, ◌+◌, ◌<◌, Option, Some, None, List, [], ◌∷◌, ◌++◌, length, map, slice_get, refl, sym, ap, subst, ◌∙◌, arith, length-append, append_assoc}
+use Rattle.std.proofs.Common.{◌≡◌, ◌≢◌, ℕ, ◌+◌, ◌<◌, Option, Some, None, List, [], ◌∷◌, ◌++◌, length, map, slice_get, refl, ap, subst, ◌∙◌, arith, length-append}
 use Rattle.std.specs.Option.{option_and_then, unwrap_or}
 use Rattle.std.specs.List.{AllPairs, Contains}
-use Rattle.std.proofs.lemmas.List.{length-map, map-append}
-use Rattle.graph_walks.proofs.Lists.{first, later, got, stands, Stands, Origin, map_from}
+use Rattle.graph_walks.proofs.Lists.{first, later, got, Origin, map_from}
 use Rattle.flow_graph.specs.declared.context.Context.{Context as ContextRow}
 use Rattle.flow_graph.specs.Validity as flow_validity
-use Rattle.world_rules.specs.Places.{Context, main, Variable, local, slot, global, Point, at}
+use Rattle.world_rules.specs.Places.{Context, main, local, slot, at}
 use Rattle.world_tables.specs.declared.spot.PointSpot.{PointSpot}
 use Rattle.world_tables.specs.declared.spot.VariableSpot.{VariableSpot}
 use Rattle.world_tables.specs.declared.spot.VariableSpot.TheVariants.{Local, Slot, Global}
-use Rattle.world_tables.specs.Tables.{HaveOneNumber}
 use Rattle.world_tables.specs.Rows.{context_by, context_of, contexts_from, the_context, point_of, variable_of, IsSpotThere}
 use Rattle.world_tables.proofs.Apart.{one_number}
 use Rattle.world_tables.proofs.Items.{there}
@@ -67,7 +65,7 @@ module _ (contexts : List Context) (c : Context) where
 -- ---- different spots are different points
 
 module _ (contexts : List Context) (once : AllPairs (λ c d. c ≢ d) contexts) where
-  same_context : (k l : ℕ) → k < length contexts → l < length contexts → the_context contexts k ≡ the_context contexts l → k ≡ l
+  pub same_context : (k l : ℕ) → k < length contexts → l < length contexts → the_context contexts k ≡ the_context contexts l → k ≡ l
   same_context k l h i e = one_number contexts once k l (the_context contexts l) (there contexts k main h ∙ ap Some e) (there contexts l main i)
 
   pub same_point : (a b : PointSpot) → a.context < length contexts → b.context < length contexts → point_of contexts a ≡ point_of contexts b → a ≡ b

@@ -33,3 +33,5 @@ pub mod Quiet
 pub mod Distinct
 pub mod Counted
 pub mod Given
+pub mod NewContexts
+pub mod FullShapes

@@ -1,11 +1,10 @@
 -- Bindings that are one map by numbers are one map by structure.
-use Rattle.std.proofs.Common.{◌≡◌, ◌≢◌, ℕ, ◌<◌, Bool, true, false, cond, nat_eq, Option, Some, None, option_map, List, [], ◌∷◌, map, length, ◌⊎◌, inl, inr, refl, sym, ap, ◌∙◌, arith}
+use Rattle.std.proofs.Common.{◌≡◌, ℕ, ◌<◌, Bool, true, false, cond, nat_eq, Option, Some, None, option_map, List, [], ◌∷◌, length, refl, sym, ap, ◌∙◌}
 use Rattle.std.specs.List.{Contains}
 use Rattle.graph_walks.proofs.Lists.{first, later}
 use Rattle.typegraph.specs.declared.goals.Binding.{Binding}
 use Rattle.typegraph.specs.Maps.{look}
 use Rattle.typegraph.proofs.Looks.{equal_as, equal}
-use Rattle.abstract_shapes.specs.Shapes.{Shape}
 use Rattle.world_rules.specs.Places.{Variable, global, same_variable}
 use Rattle.world_rules.proofs.Same.{variable_same, variable_equal}
 use Rattle.world_tables.specs.Tables.{Tables, the_variable, the_shape, memory_at, AreBindings, HaveOneNumber}

@@ -1,5 +1,5 @@
 -- The first of the shapes that rows are.
-use Rattle.std.proofs.Common.{◌≡◌, ℕ, suc, zero, ◌+◌, ◌<◌, ◌≤◌, List, [], ◌∷◌, ◌++◌, length, map, take, drop, slice_get, Some, None, refl, sym, ap, subst, ◌∙◌, arith, length-append, append_assoc, append-nil}
+use Rattle.std.proofs.Common.{◌≡◌, ℕ, suc, zero, ◌<◌, ◌≤◌, List, [], ◌∷◌, ◌++◌, length, take, drop, slice_get, Some, refl, sym, ap, ◌∙◌, arith, append_assoc, append-nil}
 use Rattle.std.specs.Option.{unwrap_or}
 use Rattle.std.proofs.lemmas.List.{take-append-drop}
 use Rattle.abstract_shapes.specs.declared.shape.Shape.{Shape as ShapeRow}
@@ -30,7 +30,8 @@ front [] ys (suc n) e = absurd (omega (arith, e))
 front (x ∷ xs) ys zero e = absurd (omega (arith, e))
 front (x ∷ xs) ys (suc n) e = ap (λ zs. x ∷ zs) (front xs ys n (omega (arith, e)))
 
-taken : {X : Type 0} (n : ℕ) (xs : List X) → n ≤ length xs → length (take n xs) ≡ n
+-- so many first elements, where there are enough
+pub taken : {X : Type 0} (n : ℕ) (xs : List X) → n ≤ length xs → length (take n xs) ≡ n
 taken zero xs l = refl
 taken (suc n) [] l = absurd (omega (arith, l))
 taken (suc n) (x ∷ xs) l = ap suc (taken n xs (omega (arith, l)))

@@ -1,7 +1,6 @@
 -- What interning a shape and naming it leave of the tables.
 use Rattle.std.proofs.Common.{◌≡◌, ℕ, suc, zero, ◌+◌, ◌<◌, ◌≤◌, Bool, true, false, List, [], ◌∷◌, ◌++◌, length, map, take, drop, slice_get, Some, ◌⊎◌, inl, inr, refl, sym, ap, subst, ◌∙◌, arith, append-nil, length-append}
 use Rattle.std.proofs.lemmas.List.{take-append-le, length-map}
-use Rattle.flow_graph.specs.Validity as flow_validity
 use Rattle.typegraph.specs.Graphs.{GraphTables}
 use Rattle.typegraph.specs.Validity as graph_validity
 use Rattle.abstract_shapes.specs.declared.shape.Shape.{Shape as ShapeRow}
@@ -14,7 +13,7 @@ use Rattle.world_tables.specs.Tables.{items_of, HaveOneNumber, AreTables}
 use Rattle.world_tables.specs.Rows.{WorldRows, tables_of, IsWithShapes, IsKept}
 use Rattle.world_tables.proofs.Growth.{kept_shapes}
 use Rattle.world_tables.proofs.Items.{below}
-use Rattle.world_tables.proofs.Prefixes.{first_structures, as_many, take_got, take_more, structure_front}
+use Rattle.world_tables.proofs.Prefixes.{first_structures, as_many, take_get, take_got, take_more, structure_front}
 use Rattle.world_tables.proofs.WithShape as shapes
 
 -- ---- what interning leaves
@@ -153,3 +152,9 @@ module _ (rows : WorldRows) (kept : IsKept rows) (all new_all : List ShapeRow) (
       let a : length (structures rows.shapes) ≡ length rows.shapes = as_many rows.shapes in
       let b : length rows.shapes ≡ length rows.graph.truths = as_long in
       omega (arith, l, a, b)
+
+  -- so has one that is interned, once it is named
+  pub numbered_now : (m : ℕ) (g : GraphTables) → length rows.graph.truths ≤ m → m ≤ length new_all → g ≡ record rows.graph { truths = map truth_of (take m (structures new_all)) } → m ≡ length g.truths →
+      (id : ℕ) → id < m → slice_get (structures new_all) id ≡ Some (structure (structures all) row) → slice_get (structures (take (length g.truths) new_all)) id ≡ Some (structure (structures rows.shapes) row)
+  numbered_now m g from below graph_is counted id l h =
+      ap (λ xs. slice_get xs id) (shapes_are rows kept all new_all is tail m g from below graph_is counted) ∙ (take_get m (structures new_all) id l ∙ (h ∙ ap Some (sym same_structure_now)))

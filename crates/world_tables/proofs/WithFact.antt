@@ -1,5 +1,5 @@
 -- A fact is added that the rules of its point give.
-use Rattle.std.proofs.Common.{◌≡◌, ℕ, [], ◌∷◌, slice_get, ◌⊎◌, inl, inr, sym, subst}
+use Rattle.std.proofs.Common.{ℕ, slice_get, inl, inr, sym, subst}
 use Rattle.std.specs.List.{Contains}
 use Rattle.std.proofs.lemmas.List.Elements.{Contains-push_cases}
 use Rattle.typegraph.specs.declared.fact.Fact.{Fact}

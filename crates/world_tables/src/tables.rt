@@ -122,6 +122,12 @@ impl Tables {
         self.points.len()
     }
 
+    pub fn variable_count(&self) -> u32
+        ensures { result ≡ length self.now.variables }
+    {
+        self.variables.len()
+    }
+
     /// Where a point stands, if there is one.
     pub fn point_spot(&self, point: PointId) -> Option<PointSpot>
         ensures { result ≡ slice_get self.now.points point }
@@ -227,8 +233,9 @@ impl Tables {
         ensures full { IsErrOf result PushFault.Full ↔
             ((HasContext self.old.graph.flow (record { parent = parent; call = call; fun = fun }) → ⊥) × (length self.old.graph.flow.contexts ≡ 2 ^ 32 - 1)) }
         ensures refused { OnErr result (self.new ≡ self.old) }
+        ensures apart { (s : Source) → AreTables s (tables_of self.old) → (HasContext self.old.graph.flow (record { parent = parent; call = call; fun = fun }) → ⊥) →
+            Contains (contexts_of self.old) (context_of (contexts_of self.old) self.old.points (record { parent = parent; call = call; fun = fun })) → ⊥ }
         ensures keeps { (s : Source) → AreTables s (tables_of self.old) → (HasContext self.old.graph.flow (record { parent = parent; call = call; fun = fun }) → ⊥) →
-            (Contains (contexts_of self.old) (context_of (contexts_of self.old) self.old.points (record { parent = parent; call = call; fun = fun })) → ⊥) →
             Gives s (items_of (tables_of self.old)) (a_context (context_of (contexts_of self.old) self.old.points (record { parent = parent; call = call; fun = fun }))) →
             AreTables s (tables_of self.new) }
     {
@@ -279,15 +286,30 @@ impl Tables {
         requires given { IsOuter shape }
         ensures numbered { IfOk result (λ id. slice_get (structures self.new.shapes) id ≡ Some (structure (structures self.old.shapes) shape)) }
         ensures known { HasId (structures self.old.shapes) (structure (structures self.old.shapes) shape) → IsOk result × (self.new ≡ self.old) }
+        // Full counts the shapes that are there afterwards, those that a refusal left too.
+        ensures full { IsErrOf result PushFault.Full ↔
+            ((HasId (structures self.new.shapes) (structure (structures self.old.shapes) shape) → ⊥) × (length self.new.shapes ≡ 2 ^ 32 - 1)) }
         ensures grown { IsWithShapes self.old self.new }
         ensures keeps { (s : Source) → AreTables s (tables_of self.old) → AreTables s (tables_of self.new) × (items_of (tables_of self.new) ≡ items_of (tables_of self.old)) }
     {
-        let id = self.shapes.intern(shape)?;
+        let interned = self.shapes.intern(shape);
+        // So there are fewer than a `u32` counts.
+        let _count = self.shapes.len();
+        let id = match interned {
+            Ok(id) => id,
+            Err(PushFault::Full) => {
+                let fault = name_all(&mut self.graph, &self.shapes, &mut self.named);
+                validity(&self.graph);
+                return Err(fault);
+            }
+            Err(PushFault::Memory) => return Err(PushFault::Memory),
+        };
         let done = name_shapes(&mut self.graph, &self.shapes, &mut self.named, id);
         validity(&self.graph);
         match done {
             Ok(()) => Ok(id),
-            Err(fault) => Err(fault),
+            // The graph has fewer shapes than there are, so it isn't full.
+            Err(_) => Err(PushFault::Memory),
         }
     }
 
@@ -385,6 +407,24 @@ impl Tables {
     }
 }
 
+// Gives the graph the truth of each shape, where there are as many as ids, and answers why there can't be more.
+fn name_all(graph: &mut Graph, shapes: &Shapes, named: &mut u32) -> PushFault
+    requires all { length shapes.now ≡ 2 ^ 32 - 1 }
+    requires counted { named.old ≡ length graph.old.truths }
+    requires few { named.old ≤ length shapes.now }
+    requires truths { graph.old.truths ≡ map truth_of (take named.old (structures shapes.now)) }
+    ensures full { (result ≡ PushFault.Full) ↔ (named.new ≡ 2 ^ 32 - 1) }
+    ensures more { named.old ≤ named.new }
+    ensures counted { named.new ≡ length graph.new.truths }
+    ensures few { named.new ≤ length shapes.now }
+    ensures truths { graph.new ≡ record graph.old { truths = map truth_of (take named.new (structures shapes.now)) } }
+{
+    match name_shapes(graph, shapes, named, ShapeId::new(u32::MAX - 1)) {
+        Ok(()) => PushFault::Full,
+        Err(_) => PushFault::Memory,
+    }
+}
+
 // Gives the graph the truth of each shape up to this one.
 fn name_shapes(
     graph: &mut Graph,
@@ -397,6 +437,7 @@ fn name_shapes(
     requires few { named.old ≤ length shapes.now }
     requires truths { graph.old.truths ≡ map truth_of (take named.old (structures shapes.now)) }
     ensures named { OnOk result (last < named.new) }
+    ensures wanting { OnErr result (named.new ≤ last) }
     ensures more { named.old ≤ named.new }
     ensures counted { named.new ≡ length graph.new.truths }
     ensures few { named.new ≤ length shapes.now }

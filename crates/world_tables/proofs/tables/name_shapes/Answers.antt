@@ -1,4 +1,4 @@
-use Rattle.std.proofs.Common.{◌≡◌, ◌<◌, ◌≤◌, ◌∙◌, length, sym, ap, subst, arith}
+use Rattle.std.proofs.Common.{◌<◌, ◌≤◌, ◌∙◌, sym, ap, subst, arith}
 use Rattle.typegraph.specs.Graphs.{with_shape}
 use Rattle.abstract_shapes.specs.Numbering.{structures, shape_at}
 use Rattle.abstract_shapes.specs.Shapes.{truth_of}

@@ -1,4 +1,4 @@
-use Rattle.std.proofs.Common.{ℕ, ◌-◌, length}
+use Rattle.std.proofs.Common.{◌-◌, length}
 use Rattle.abstract_shapes.specs.Numbering.{structures}
 use Rattle.world_tables.proofs.Counting.{AreNamed}
 use Rattle.world_tables.proofs.tables.name_shapes.Given as goal

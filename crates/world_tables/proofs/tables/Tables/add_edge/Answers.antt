@@ -1,4 +1,4 @@
-use Rattle.std.proofs.Common.{◌≡◌, sym, subst}
+use Rattle.std.proofs.Common.{sym, subst}
 use Rattle.flow_graph.specs.Flows.{with_edge}
 use Rattle.typegraph.specs.Graphs.{with_flow}
 use Rattle.world_rules.specs.Items.{an_edge}

@@ -1,4 +1,4 @@
-use Rattle.std.proofs.Common.{◌≡◌, length, sym, subst}
+use Rattle.std.proofs.Common.{length, sym, subst}
 use Rattle.std.specs.List.{All}
 use Rattle.typegraph.specs.Validity.{IsBindingThere}
 use Rattle.world_rules.specs.Items.{a_fact}

@@ -1,9 +1,7 @@
-use Rattle.std.proofs.Common.{◌≡◌, ℕ, suc, ◌+◌, ◌<◌, Some, length, slice_get, sym, ap, subst, ◌∙◌, add-one}
-use Rattle.world_rules.specs.Places.{main}
+use Rattle.std.proofs.Common.{◌<◌, length, sym, subst}
 use Rattle.world_tables.specs.Tables.{HasAll, AreTables}
 use Rattle.world_tables.specs.Rows.{contexts_of, the_context, tables_of}
 use Rattle.world_tables.specs.contracts.tables.Tables as tables
-use Rattle.world_tables.proofs.Items.{there}
 use Rattle.world_tables.proofs.Growth.{finishing_keeps}
 use Rattle.world_tables.proofs.tables.Tables.finish_next.Goals as goal
 

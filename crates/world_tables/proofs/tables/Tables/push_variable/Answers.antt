@@ -1,4 +1,4 @@
-use Rattle.std.proofs.Common.{◌≡◌, ◌∙◌, sym, ap, subst, length, slice_get}
+use Rattle.std.proofs.Common.{◌∙◌, sym, ap, subst, length, slice_get}
 use Rattle.typegraph.proofs.Results.{good}
 use Rattle.world_tables.specs.Rows.{IsSpotThere}
 use Rattle.world_tables.proofs.Growth.{kept_variable}
