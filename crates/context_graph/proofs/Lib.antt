@@ -1,0 +1,13 @@
+pub mod Lists
+pub mod Grown
+pub mod Parts
+pub mod EdgeSteps
+pub mod PointSteps
+pub mod ReadSteps
+pub mod Firsts
+pub mod RootSpots
+pub mod VariableSteps
+pub mod EdgeMore
+pub mod EdgeLoops
+pub mod Finished
+pub mod PointLoops

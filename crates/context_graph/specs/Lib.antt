@@ -1,0 +1,4 @@
+pub mod Growth
+pub mod Places
+pub mod Worlds
+pub mod Edges
