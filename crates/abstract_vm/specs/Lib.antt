@@ -1,0 +1,10 @@
+pub mod Worlds
+pub mod Spots
+pub mod Firing
+pub mod Verdicts
+pub mod Beginning
+pub mod Steps
+pub mod Marks
+pub mod Telling
+pub mod Asking
+pub mod Readings
