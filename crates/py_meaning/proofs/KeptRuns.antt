@@ -2,7 +2,6 @@
 use Rattle.std.proofs.Common.{ℕ, zero, suc, ◌+◌, ◌≤◌, ◌<◌, Bool, true, false, ◌&&◌, List, [], ◌∷◌, length, Option, Some, None, slice_get, unwrap_or, arith}
 use Rattle.std.specs.Prelude.{codes, is_some, nat_eq}
 use Rattle.std.specs.List.{list_any}
-use Rattle.std.proofs.lemmas.List.Elements.{All-nil}
 use Rattle.type_terms.specs.Terms as term
 use Rattle.py_tree.specs.declared.literal.Literal.{Literal}
 use Rattle.py_tree.specs.Tree.{Param}
@@ -20,7 +19,7 @@ use Rattle.py_meaning.specs.Targets.{put}
 use Rattle.py_meaning.specs.Statements.{exec_all, run_while, run_for, once_more}
 use Rattle.py_meaning.specs.Calls.{default_value, argument_value, source_value, parameters_bound, with_frame, told_return, enter, enter_matched, match_row, call_function, start_instance, instance_matched, plain_arguments, make_plain, make_with, make_instance, match_stub, given_or_fault, call_stub_fun, call_stub_class, call_stub_method, call_foreign, call_object, call_any, outside_value, outside_values, outside_locals, enter_from_outside, finds_at, receivers_if, receivers, method_from_outside, function_from_outside, instance_from_outside, class_from_outside, call_from_outside, returning, perform}
 use Rattle.py_meaning.specs.Actions.{Frame, Scope, Memory, Argument, Flow, returns, OutsideCall, calls_function, calls_class, Request, call, while_turn, for_turn, outside_call, Action, gives, looks, bind, changes, allocate, anything, pick, one_of, fails, done}
-use Rattle.py_meaning.specs.Runs.{scope_after, tell_if, tell_names, can_be_called, call_if, make_calls, answer}
+use Rattle.py_meaning.specs.Runs.{scope_after, tell_if, tell_names, can_be_called, call_if, make_calls}
 use Rattle.py_meaning.specs.Holds.{Holds}
 use Rattle.py_meaning.proofs.Holding.{GaveInside, RaisedInside, left_by, holds_map}
 use Rattle.py_meaning.specs.Receivers.{IsUnbound}

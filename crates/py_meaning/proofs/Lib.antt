@@ -1,4 +1,5 @@
 pub mod Samples
+pub mod Written
 mod OperatorRuns
 mod ContainerRuns
 mod StatementRuns

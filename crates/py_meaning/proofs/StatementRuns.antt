@@ -2,12 +2,13 @@
 use Rattle.std.specs.Prelude.{◌≡◌, pos, false, [], ◌∷◌, Some, None, refl, codes}
 use Rattle.place_ids.specs.declared.operators.CompareOp.TheVariants as cmp
 use Rattle.py_tree.specs.declared.literal.Literal.TheVariants as lit
-use Rattle.py_tree.specs.Tree as tree
-use Rattle.py_tree.specs.Tree.{Module, Param, node, Exprs, no_exprs, expr, no_bound, bound, no_args, arg, no_pairs, pair, statement, no_stmts, stmt, no_arms, arm, no_handlers, handler, fun_def, class_def, no_members, member}
+use Rattle.py_tree.specs.Tree.{Module}
 use Rattle.py_meaning.specs.Values.{truth, whole, text, ref}
 use Rattle.py_meaning.specs.Objects as object
 use Rattle.py_meaning.specs.Events as event
 use Rattle.py_meaning.specs.Runs.{turns_within, answer, ended, raised_out, ran_out_of_turns}
+use Rattle.py_meaning.proofs.Written.{written, ·◌, ··◌, name, literal, int, str, compare, attr, call, tuple, list, pass, break, continue, ellipsis, raise}
+use Rattle.py_meaning.proofs.Written.{assert, global, set, annotated, expression, while, for, elif, when, end_if, otherwise, try, except, end_try, try_else, def}
 use Rattle.py_meaning.proofs.Samples.{answered, native, error, anything}
 
 --     if 0:
@@ -17,10 +18,13 @@ use Rattle.py_meaning.proofs.Samples.{answered, native, error, anything}
 --     else:
 --         x = 3
 abbrev takes_an_arm_module : Module
-takes_an_arm_module = record {
-  body = stmt (statement (tree.if (arm (node (tree.literal (lit.Int false 0)) 1 0) (stmt (statement (tree.assign (expr (node (tree.name 0) 2 1) no_exprs) (node (tree.literal (lit.Int false 1)) 2 2)) 2) no_stmts) (arm (node (tree.literal (lit.Str false)) 3 3) (stmt (statement (tree.assign (expr (node (tree.name 0) 4 4) no_exprs) (node (tree.literal (lit.Int false 2)) 4 5)) 4) no_stmts) no_arms)) (stmt (statement (tree.assign (expr (node (tree.name 0) 6 6) no_exprs) (node (tree.literal (lit.Int false 3)) 6 7)) 6) no_stmts)) 1) no_stmts;
-  names = codes "x" ∷ [];
-}
+takes_an_arm_module = written (
+    when (int 0) (
+    · set "x" (int 1) ∷ []) (
+    elif (str "a") (
+    · set "x" (int 2) ∷ []) (
+    otherwise (
+    · set "x" (int 3) ∷ []))) ∷ [])
 
 takes_an_arm : answered takes_an_arm_module [] 0 ([]) ([]) ≡ record {
   events = event.held 0 (whole (pos 2)) ∷ [];
@@ -37,10 +41,11 @@ takes_an_arm = refl
 --     else:
 --         x = 3
 abbrev takes_no_arm_module : Module
-takes_no_arm_module = record {
-  body = stmt (statement (tree.if (arm (node (tree.literal (lit.Int false 0)) 1 0) (stmt (statement (tree.assign (expr (node (tree.name 0) 2 1) no_exprs) (node (tree.literal (lit.Int false 1)) 2 2)) 2) no_stmts) no_arms) (stmt (statement (tree.assign (expr (node (tree.name 0) 4 3) no_exprs) (node (tree.literal (lit.Int false 3)) 4 4)) 4) no_stmts)) 1) no_stmts;
-  names = codes "x" ∷ [];
-}
+takes_no_arm_module = written (
+    when (int 0) (
+    · set "x" (int 1) ∷ []) (
+    otherwise (
+    · set "x" (int 3) ∷ [])) ∷ [])
 
 takes_no_arm : answered takes_no_arm_module [] 0 ([]) ([]) ≡ record {
   events = event.held 0 (whole (pos 3)) ∷ [];
@@ -57,10 +62,10 @@ takes_no_arm = refl
 --     while n:
 --         n = n == 1
 abbrev loops_twice_module : Module
-loops_twice_module = record {
-  body = stmt (statement (tree.assign (expr (node (tree.name 0) 1 0) no_exprs) (node (tree.literal lit.TrueValue) 1 1)) 1) (stmt (statement (tree.while (node (tree.name 0) 2 2) (stmt (statement (tree.assign (expr (node (tree.name 0) 3 3) no_exprs) (node (tree.compare cmp.Equal (node (tree.name 0) 3 4) (node (tree.literal (lit.Int false 1)) 3 5)) 3 6)) 3) no_stmts)) 2) no_stmts);
-  names = codes "n" ∷ [];
-}
+loops_twice_module = written (
+    set "n" (literal lit.TrueValue) ∷
+    while (name "n") (
+    · set "n" (compare (name "n") cmp.Equal (int 1)) ∷ []) ∷ [])
 
 loops_twice : answered loops_twice_module [] 2 (0 ∷ 0 ∷ 0 ∷ 0 ∷ 0 ∷ 0 ∷ 0 ∷ 1 ∷ 0 ∷ []) ([]) ≡ record {
   events = event.held 0 (truth false) ∷ [];
@@ -75,10 +80,9 @@ loops_twice = refl
 --     while True:
 --         pass
 abbrev loops_too_long_module : Module
-loops_too_long_module = record {
-  body = stmt (statement (tree.while (node (tree.literal lit.TrueValue) 1 0) (stmt (statement tree.pass 2) no_stmts)) 1) no_stmts;
-  names = [];
-}
+loops_too_long_module = written (
+    while (literal lit.TrueValue) (
+    · pass ∷ []) ∷ [])
 
 loops_too_long : answered loops_too_long_module [] 3 ([]) ([]) ≡ record {
   events = [];
@@ -95,10 +99,11 @@ loops_too_long = refl
 --         break
 --         x = 2
 abbrev breaks_out_module : Module
-breaks_out_module = record {
-  body = stmt (statement (tree.while (node (tree.literal lit.TrueValue) 1 0) (stmt (statement (tree.assign (expr (node (tree.name 0) 2 1) no_exprs) (node (tree.literal (lit.Int false 1)) 2 2)) 2) (stmt (statement tree.break 3) (stmt (statement (tree.assign (expr (node (tree.name 0) 4 3) no_exprs) (node (tree.literal (lit.Int false 2)) 4 4)) 4) no_stmts)))) 1) no_stmts;
-  names = codes "x" ∷ [];
-}
+breaks_out_module = written (
+    while (literal lit.TrueValue) (
+    · set "x" (int 1) ∷
+    · break ∷
+    · set "x" (int 2) ∷ []) ∷ [])
 
 breaks_out : answered breaks_out_module [] 1 ([]) ([]) ≡ record {
   events = event.held 0 (whole (pos 1)) ∷ [];
@@ -114,10 +119,10 @@ breaks_out = refl
 --         continue
 --         x = 2
 abbrev continues_with_the_next_module : Module
-continues_with_the_next_module = record {
-  body = stmt (statement (tree.for (node (tree.name 0) 1 0) (node (tree.tuple (expr (node (tree.literal (lit.Int false 1)) 1 1) no_exprs)) 1 2) (stmt (statement tree.continue 2) (stmt (statement (tree.assign (expr (node (tree.name 1) 3 3) no_exprs) (node (tree.literal (lit.Int false 2)) 3 4)) 3) no_stmts))) 1) no_stmts;
-  names = codes "n" ∷ codes "x" ∷ [];
-}
+continues_with_the_next_module = written (
+    for (name "n") (tuple (int 1 ∷ [])) (
+    · continue ∷
+    · set "x" (int 2) ∷ []) ∷ [])
 
 continues_with_the_next : answered continues_with_the_next_module [] 1 (0 ∷ 0 ∷ 0 ∷ 1 ∷ []) ([]) ≡ record {
   events = event.held 0 (whole (pos 1)) ∷ [];
@@ -135,10 +140,12 @@ continues_with_the_next = refl
 --     y: int = 4
 --     1
 abbrev passes_module : Module
-passes_module = record {
-  body = stmt (statement tree.pass 1) (stmt (statement tree.ellipsis 2) (stmt (statement (tree.annotated (node (tree.name 0) 3 0) None) 3) (stmt (statement (tree.annotated (node (tree.name 2) 4 1) (Some (node (tree.literal (lit.Int false 4)) 4 2))) 4) (stmt (statement (tree.expression (node (tree.literal (lit.Int false 1)) 5 3)) 5) no_stmts))));
-  names = codes "x" ∷ codes "int" ∷ codes "y" ∷ [];
-}
+passes_module = written (
+    pass ∷
+    ellipsis ∷
+    annotated (name "x") "int" None ∷
+    annotated (name "y") "int" (Some (int 4)) ∷
+    expression (int 1) ∷ [])
 
 passes : answered passes_module [] 0 ([]) ([]) ≡ record {
   events = event.held 2 (whole (pos 4)) ∷ [];
@@ -154,10 +161,9 @@ passes = refl
 --     global x
 --     x = 1
 abbrev declares_a_global_module : Module
-declares_a_global_module = record {
-  body = stmt (statement (tree.global (0 ∷ [])) 1) (stmt (statement (tree.assign (expr (node (tree.name 0) 2 0) no_exprs) (node (tree.literal (lit.Int false 1)) 2 1)) 2) no_stmts);
-  names = codes "x" ∷ [];
-}
+declares_a_global_module = written (
+    global ("x" ∷ []) ∷
+    set "x" (int 1) ∷ [])
 
 declares_a_global : answered declares_a_global_module [] 0 ([]) ([]) ≡ record {
   events = event.held 0 (whole (pos 1)) ∷ [];
@@ -173,10 +179,9 @@ declares_a_global = refl
 --     x = 1
 --     x.a: int
 abbrev annotates_an_attribute_module : Module
-annotates_an_attribute_module = record {
-  body = stmt (statement (tree.assign (expr (node (tree.name 0) 1 0) no_exprs) (node (tree.literal (lit.Int false 1)) 1 1)) 1) (stmt (statement (tree.annotated (node (tree.attr (node (tree.name 0) 2 2) 1) 2 3) None) 2) no_stmts);
-  names = codes "x" ∷ codes "a" ∷ codes "int" ∷ [];
-}
+annotates_an_attribute_module = written (
+    set "x" (int 1) ∷
+    annotated (attr (name "x") "a") "int" None ∷ [])
 
 annotates_an_attribute : answered annotates_an_attribute_module [] 0 (0 ∷ []) ([]) ≡ record {
   events = event.held 0 (whole (pos 1)) ∷ [];
@@ -191,10 +196,8 @@ annotates_an_attribute = refl
 -- the message isn't evaluated
 --     assert 1, nope
 abbrev asserts_what_is_true_module : Module
-asserts_what_is_true_module = record {
-  body = stmt (statement (tree.assert (node (tree.literal (lit.Int false 1)) 1 0) (Some (node (tree.name 0) 1 1))) 1) no_stmts;
-  names = codes "nope" ∷ [];
-}
+asserts_what_is_true_module = written (
+    assert (int 1) (Some (name "nope")) ∷ [])
 
 asserts_what_is_true : answered asserts_what_is_true_module [] 0 ([]) ([]) ≡ record {
   events = [];
@@ -209,10 +212,8 @@ asserts_what_is_true = refl
 -- the class is read, called and raised: three steps that may raise
 --     assert 0, "m"
 abbrev asserts_what_is_false_module : Module
-asserts_what_is_false_module = record {
-  body = stmt (statement (tree.assert (node (tree.literal (lit.Int false 0)) 1 0) (Some (node (tree.literal (lit.Str false)) 1 1))) 1) no_stmts;
-  names = [];
-}
+asserts_what_is_false_module = written (
+    assert (int 0) (Some (str "m")) ∷ [])
 
 asserts_what_is_false : answered asserts_what_is_false_module [] 1 (0 ∷ 0 ∷ 0 ∷ []) ([]) ≡ record {
   events = [];
@@ -226,10 +227,8 @@ asserts_what_is_false = refl
 
 --     raise ValueError
 abbrev raises_a_class_module : Module
-raises_a_class_module = record {
-  body = stmt (statement (tree.raise (Some (node (tree.name 0) 1 0)) None) 1) no_stmts;
-  names = codes "ValueError" ∷ [];
-}
+raises_a_class_module = written (
+    raise (Some (name "ValueError")) None ∷ [])
 
 raises_a_class : answered raises_a_class_module [] 1 (0 ∷ 0 ∷ 0 ∷ []) ([]) ≡ record {
   events = [];
@@ -244,10 +243,8 @@ raises_a_class = refl
 -- the class call of a `raise` is a turn
 --     raise ValueError
 abbrev raises_a_class_without_turns_module : Module
-raises_a_class_without_turns_module = record {
-  body = stmt (statement (tree.raise (Some (node (tree.name 0) 1 0)) None) 1) no_stmts;
-  names = codes "ValueError" ∷ [];
-}
+raises_a_class_without_turns_module = written (
+    raise (Some (name "ValueError")) None ∷ [])
 
 raises_a_class_without_turns : answered raises_a_class_without_turns_module [] 0 (0 ∷ 0 ∷ 0 ∷ []) ([]) ≡ record {
   events = [];
@@ -262,10 +259,8 @@ raises_a_class_without_turns = refl
 -- a TypeError that is no event
 --     raise 3
 abbrev raises_what_is_no_exception_module : Module
-raises_what_is_no_exception_module = record {
-  body = stmt (statement (tree.raise (Some (node (tree.literal (lit.Int false 3)) 1 0)) None) 1) no_stmts;
-  names = [];
-}
+raises_what_is_no_exception_module = written (
+    raise (Some (int 3)) None ∷ [])
 
 raises_what_is_no_exception : answered raises_what_is_no_exception_module [] 0 (0 ∷ 0 ∷ []) ([]) ≡ record {
   events = [];
@@ -279,10 +274,8 @@ raises_what_is_no_exception = refl
 
 --     raise ValueError() from nope
 abbrev raises_with_a_cause_module : Module
-raises_with_a_cause_module = record {
-  body = stmt (statement (tree.raise (Some (node (tree.call (node (tree.name 0) 1 0) no_args) 1 1)) (Some (node (tree.name 1) 1 2))) 1) no_stmts;
-  names = codes "ValueError" ∷ codes "nope" ∷ [];
-}
+raises_with_a_cause_module = written (
+    raise (Some (call (name "ValueError") [])) (Some (name "nope")) ∷ [])
 
 raises_with_a_cause : answered raises_with_a_cause_module [] 1 (0 ∷ 0 ∷ 0 ∷ 0 ∷ 0 ∷ []) ([]) ≡ record {
   events = [];
@@ -296,10 +289,8 @@ raises_with_a_cause = refl
 
 --     raise
 abbrev raises_nothing_module : Module
-raises_nothing_module = record {
-  body = stmt (statement (tree.raise None None) 1) no_stmts;
-  names = [];
-}
+raises_nothing_module = written (
+    raise None None ∷ [])
 
 raises_nothing : answered raises_nothing_module [] 0 (0 ∷ []) ([]) ≡ record {
   events = [];
@@ -317,10 +308,12 @@ raises_nothing = refl
 --         x = e
 --     y = e
 abbrev unbinds_a_name_after_its_clause_module : Module
-unbinds_a_name_after_its_clause_module = record {
-  body = stmt (statement (tree.try (stmt (statement (tree.raise (Some (node (tree.call (node (tree.name 0) 2 0) no_args) 2 1)) None) 2) no_stmts) (handler (Some (node (tree.name 0) 3 2)) (Some 1) (stmt (statement (tree.assign (expr (node (tree.name 2) 4 3) no_exprs) (node (tree.name 1) 4 4)) 4) no_stmts) 3 no_handlers) no_stmts) 1) (stmt (statement (tree.assign (expr (node (tree.name 3) 5 5) no_exprs) (node (tree.name 1) 5 6)) 5) no_stmts);
-  names = codes "ValueError" ∷ codes "e" ∷ codes "x" ∷ codes "y" ∷ [];
-}
+unbinds_a_name_after_its_clause_module = written (
+    try (
+    · raise (Some (call (name "ValueError") [])) None ∷ []) (
+    except (Some (name "ValueError")) (Some "e") (
+    · set "x" (name "e") ∷ []) end_try) ∷
+    set "y" (name "e") ∷ [])
 
 unbinds_a_name_after_its_clause : answered unbinds_a_name_after_its_clause_module [] 1 (0 ∷ 0 ∷ 0 ∷ 0 ∷ 0 ∷ 0 ∷ 0 ∷ 0 ∷ []) ([]) ≡ record {
   events = [];
@@ -341,10 +334,15 @@ unbinds_a_name_after_its_clause = refl
 --     else:
 --         x = 3
 abbrev passes_over_a_clause_module : Module
-passes_over_a_clause_module = record {
-  body = stmt (statement (tree.try (stmt (statement (tree.raise (Some (node (tree.name 0) 2 0)) None) 2) no_stmts) (handler (Some (node (tree.name 1) 3 1)) None (stmt (statement (tree.assign (expr (node (tree.name 2) 4 2) no_exprs) (node (tree.literal (lit.Int false 1)) 4 3)) 4) no_stmts) 3 (handler (Some (node (tree.name 3) 5 4)) None (stmt (statement (tree.assign (expr (node (tree.name 2) 6 5) no_exprs) (node (tree.literal (lit.Int false 2)) 6 6)) 6) no_stmts) 5 no_handlers)) (stmt (statement (tree.assign (expr (node (tree.name 2) 8 7) no_exprs) (node (tree.literal (lit.Int false 3)) 8 8)) 8) no_stmts)) 1) no_stmts;
-  names = codes "KeyError" ∷ codes "IndexError" ∷ codes "x" ∷ codes "LookupError" ∷ [];
-}
+passes_over_a_clause_module = written (
+    try (
+    · raise (Some (name "KeyError")) None ∷ []) (
+    except (Some (name "IndexError")) None (
+    · set "x" (int 1) ∷ []) (
+    except (Some (name "LookupError")) None (
+    · set "x" (int 2) ∷ []) (
+    try_else (
+    · set "x" (int 3) ∷ [])))) ∷ [])
 
 passes_over_a_clause : answered passes_over_a_clause_module [] 1 (0 ∷ 0 ∷ 0 ∷ 0 ∷ 0 ∷ 0 ∷ 0 ∷ []) ([]) ≡ record {
   events = event.held 2 (whole (pos 2)) ∷ [];
@@ -363,10 +361,13 @@ passes_over_a_clause = refl
 --     else:
 --         x = 3
 abbrev goes_on_in_the_else_module : Module
-goes_on_in_the_else_module = record {
-  body = stmt (statement (tree.try (stmt (statement (tree.assign (expr (node (tree.name 0) 2 0) no_exprs) (node (tree.literal (lit.Int false 1)) 2 1)) 2) no_stmts) (handler None None (stmt (statement (tree.assign (expr (node (tree.name 0) 4 2) no_exprs) (node (tree.literal (lit.Int false 2)) 4 3)) 4) no_stmts) 3 no_handlers) (stmt (statement (tree.assign (expr (node (tree.name 0) 6 4) no_exprs) (node (tree.literal (lit.Int false 3)) 6 5)) 6) no_stmts)) 1) no_stmts;
-  names = codes "x" ∷ [];
-}
+goes_on_in_the_else_module = written (
+    try (
+    · set "x" (int 1) ∷ []) (
+    except None None (
+    · set "x" (int 2) ∷ []) (
+    try_else (
+    · set "x" (int 3) ∷ []))) ∷ [])
 
 goes_on_in_the_else : answered goes_on_in_the_else_module [] 0 ([]) ([]) ≡ record {
   events = event.held 0 (whole (pos 3)) ∷ [];
@@ -383,10 +384,11 @@ goes_on_in_the_else = refl
 --     except ValueError:
 --         pass
 abbrev raises_again_where_none_matches_module : Module
-raises_again_where_none_matches_module = record {
-  body = stmt (statement (tree.try (stmt (statement (tree.raise (Some (node (tree.name 0) 2 0)) None) 2) no_stmts) (handler (Some (node (tree.name 1) 3 1)) None (stmt (statement tree.pass 4) no_stmts) 3 no_handlers) no_stmts) 1) no_stmts;
-  names = codes "KeyError" ∷ codes "ValueError" ∷ [];
-}
+raises_again_where_none_matches_module = written (
+    try (
+    · raise (Some (name "KeyError")) None ∷ []) (
+    except (Some (name "ValueError")) None (
+    · pass ∷ []) end_try) ∷ [])
 
 raises_again_where_none_matches : answered raises_again_where_none_matches_module [] 1 (0 ∷ 0 ∷ 0 ∷ 0 ∷ 0 ∷ 0 ∷ []) ([]) ≡ record {
   events = [];
@@ -404,10 +406,11 @@ raises_again_where_none_matches = refl
 --     except ValueError:
 --         pass
 abbrev raises_another_where_none_matches_module : Module
-raises_another_where_none_matches_module = record {
-  body = stmt (statement (tree.try (stmt (statement (tree.raise (Some (node (tree.name 0) 2 0)) None) 2) no_stmts) (handler (Some (node (tree.name 1) 3 1)) None (stmt (statement tree.pass 4) no_stmts) 3 no_handlers) no_stmts) 1) no_stmts;
-  names = codes "KeyError" ∷ codes "ValueError" ∷ [];
-}
+raises_another_where_none_matches_module = written (
+    try (
+    · raise (Some (name "KeyError")) None ∷ []) (
+    except (Some (name "ValueError")) None (
+    · pass ∷ []) end_try) ∷ [])
 
 raises_another_where_none_matches : answered raises_another_where_none_matches_module [] 1 (0 ∷ 0 ∷ 0 ∷ 0 ∷ 0 ∷ 63 ∷ []) ([]) ≡ record {
   events = [];
@@ -427,10 +430,13 @@ raises_another_where_none_matches = refl
 --     except:
 --         f()
 abbrev raises_the_exception_under_way_module : Module
-raises_the_exception_under_way_module = record {
-  body = stmt (statement (tree.def (fun_def 0 0 ([]) (stmt (statement (tree.raise None None) 2) no_stmts) 1)) 1) (stmt (statement (tree.try (stmt (statement (tree.raise (Some (node (tree.name 1) 4 0)) None) 4) no_stmts) (handler None None (stmt (statement (tree.expression (node (tree.call (node (tree.name 0) 6 1) no_args) 6 2)) 6) no_stmts) 5 no_handlers) no_stmts) 3) no_stmts);
-  names = codes "f" ∷ codes "KeyError" ∷ [];
-}
+raises_the_exception_under_way_module = written (
+    def "f" [] (
+    · raise None None ∷ []) ∷
+    try (
+    · raise (Some (name "KeyError")) None ∷ []) (
+    except None None (
+    · expression (call (name "f") []) ∷ []) end_try) ∷ [])
 
 raises_the_exception_under_way : answered raises_the_exception_under_way_module [] 2 (0 ∷ 0 ∷ 0 ∷ 0 ∷ 0 ∷ 0 ∷ []) ([]) ≡ record {
   events = [];
@@ -448,10 +454,12 @@ raises_the_exception_under_way = refl
 --         pass
 --     raise
 abbrev forgets_the_exception_after_its_clause_module : Module
-forgets_the_exception_after_its_clause_module = record {
-  body = stmt (statement (tree.try (stmt (statement (tree.raise (Some (node (tree.name 0) 2 0)) None) 2) no_stmts) (handler None None (stmt (statement tree.pass 4) no_stmts) 3 no_handlers) no_stmts) 1) (stmt (statement (tree.raise None None) 5) no_stmts);
-  names = codes "KeyError" ∷ [];
-}
+forgets_the_exception_after_its_clause_module = written (
+    try (
+    · raise (Some (name "KeyError")) None ∷ []) (
+    except None None (
+    · pass ∷ []) end_try) ∷
+    raise None None ∷ [])
 
 forgets_the_exception_after_its_clause : answered forgets_the_exception_after_its_clause_module [] 1 (0 ∷ 0 ∷ 0 ∷ 0 ∷ []) ([]) ≡ record {
   events = [];
@@ -471,10 +479,14 @@ forgets_the_exception_after_its_clause = refl
 --         x = 3
 --     y = x
 abbrev leaves_a_try_by_break_module : Module
-leaves_a_try_by_break_module = record {
-  body = stmt (statement (tree.for (node (tree.name 0) 1 0) (node (tree.list (expr (node (tree.literal (lit.Int false 1)) 1 1) (expr (node (tree.literal (lit.Int false 2)) 1 2) no_exprs))) 1 3) (stmt (statement (tree.try (stmt (statement tree.break 3) no_stmts) (handler (Some (node (tree.name 1) 4 4)) None (stmt (statement tree.pass 5) no_stmts) 4 no_handlers) no_stmts) 2) (stmt (statement (tree.assign (expr (node (tree.name 0) 6 5) no_exprs) (node (tree.literal (lit.Int false 3)) 6 6)) 6) no_stmts))) 1) (stmt (statement (tree.assign (expr (node (tree.name 2) 7 7) no_exprs) (node (tree.name 0) 7 8)) 7) no_stmts);
-  names = codes "x" ∷ codes "ValueError" ∷ codes "y" ∷ [];
-}
+leaves_a_try_by_break_module = written (
+    for (name "x") (list (int 1 ∷ int 2 ∷ [])) (
+    · try (
+    ·· break ∷ []) (
+    · except (Some (name "ValueError")) None (
+    ·· pass ∷ []) end_try) ∷
+    · set "x" (int 3) ∷ []) ∷
+    set "y" (name "x") ∷ [])
 
 leaves_a_try_by_break : answered leaves_a_try_by_break_module [] 1 (0 ∷ 0 ∷ 0 ∷ []) ([]) ≡ record {
   events = event.held 0 (whole (pos 1)) ∷ event.held 2 (whole (pos 1)) ∷ [];
@@ -494,10 +506,13 @@ leaves_a_try_by_break = refl
 --             break
 --     x = 1
 abbrev unbinds_a_name_where_its_clause_breaks_module : Module
-unbinds_a_name_where_its_clause_breaks_module = record {
-  body = stmt (statement (tree.while (node (tree.literal lit.TrueValue) 1 0) (stmt (statement (tree.try (stmt (statement (tree.raise (Some (node (tree.name 0) 3 1)) None) 3) no_stmts) (handler (Some (node (tree.name 0) 4 2)) (Some 1) (stmt (statement tree.break 5) no_stmts) 4 no_handlers) no_stmts) 2) no_stmts)) 1) (stmt (statement (tree.assign (expr (node (tree.name 2) 6 3) no_exprs) (node (tree.literal (lit.Int false 1)) 6 4)) 6) no_stmts);
-  names = codes "KeyError" ∷ codes "e" ∷ codes "x" ∷ [];
-}
+unbinds_a_name_where_its_clause_breaks_module = written (
+    while (literal lit.TrueValue) (
+    · try (
+    ·· raise (Some (name "KeyError")) None ∷ []) (
+    · except (Some (name "KeyError")) (Some "e") (
+    ·· break ∷ []) end_try) ∷ []) ∷
+    set "x" (int 1) ∷ [])
 
 unbinds_a_name_where_its_clause_breaks : answered unbinds_a_name_where_its_clause_breaks_module [] 2 (0 ∷ 0 ∷ 0 ∷ 0 ∷ 0 ∷ []) ([]) ≡ record {
   events = event.held 2 (whole (pos 1)) ∷ [];
@@ -515,14 +530,16 @@ unbinds_a_name_where_its_clause_breaks = refl
 --     except (ValueError, KeyError):
 --         x = 1
 abbrev matches_a_tuple_module : Module
-matches_a_tuple_module = record {
-  body = stmt (statement (tree.try (stmt (statement (tree.raise (Some (node (tree.name 0) 2 0)) None) 2) no_stmts) (handler (Some (node (tree.tuple (expr (node (tree.name 1) 3 1) (expr (node (tree.name 0) 3 2) no_exprs))) 3 3)) None (stmt (statement (tree.assign (expr (node (tree.name 2) 4 4) no_exprs) (node (tree.literal (lit.Int false 1)) 4 5)) 4) no_stmts) 3 no_handlers) no_stmts) 1) no_stmts;
-  names = codes "KeyError" ∷ codes "ValueError" ∷ codes "x" ∷ [];
-}
+matches_a_tuple_module = written (
+    try (
+    · raise (Some (name "KeyError")) None ∷ []) (
+    except (Some (tuple (name "ValueError" ∷ name "KeyError" ∷ []))) None (
+    · set "x" (int 1) ∷ []) end_try) ∷ [])
 
 matches_a_tuple : answered matches_a_tuple_module [] 1 (0 ∷ 0 ∷ 0 ∷ 0 ∷ 0 ∷ 0 ∷ 2 ∷ []) ([]) ≡ record {
   events = event.held 2 (whole (pos 1)) ∷ [];
-  heap = native (codes "KeyError") ∷ error (codes "KeyError") ∷ native (codes "ValueError") ∷ native (codes "KeyError") ∷ object.tuple 3 object.places ((ref 2) ∷ (ref 3) ∷ []) ∷ [];
+  heap = native (codes "KeyError") ∷ error (codes "KeyError") ∷ native (codes "ValueError") ∷ native (codes "KeyError")
+      ∷ object.tuple 3 object.places ((ref 2) ∷ (ref 3) ∷ []) ∷ [];
   ending = ended;
   choices = [];
   turns = 0;
@@ -535,14 +552,16 @@ matches_a_tuple = refl
 --     except (ValueError, KeyError):
 --         x = 1
 abbrev passes_over_a_tuple_module : Module
-passes_over_a_tuple_module = record {
-  body = stmt (statement (tree.try (stmt (statement (tree.raise (Some (node (tree.name 0) 2 0)) None) 2) no_stmts) (handler (Some (node (tree.tuple (expr (node (tree.name 1) 3 1) (expr (node (tree.name 0) 3 2) no_exprs))) 3 3)) None (stmt (statement (tree.assign (expr (node (tree.name 2) 4 4) no_exprs) (node (tree.literal (lit.Int false 1)) 4 5)) 4) no_stmts) 3 no_handlers) no_stmts) 1) no_stmts;
-  names = codes "KeyError" ∷ codes "ValueError" ∷ codes "x" ∷ [];
-}
+passes_over_a_tuple_module = written (
+    try (
+    · raise (Some (name "KeyError")) None ∷ []) (
+    except (Some (tuple (name "ValueError" ∷ name "KeyError" ∷ []))) None (
+    · set "x" (int 1) ∷ []) end_try) ∷ [])
 
 passes_over_a_tuple : answered passes_over_a_tuple_module [] 1 (0 ∷ 0 ∷ 0 ∷ 0 ∷ 0 ∷ 0 ∷ 1 ∷ 0 ∷ []) ([]) ≡ record {
   events = [];
-  heap = native (codes "KeyError") ∷ error (codes "KeyError") ∷ native (codes "ValueError") ∷ native (codes "KeyError") ∷ object.tuple 3 object.places ((ref 2) ∷ (ref 3) ∷ []) ∷ [];
+  heap = native (codes "KeyError") ∷ error (codes "KeyError") ∷ native (codes "ValueError") ∷ native (codes "KeyError")
+      ∷ object.tuple 3 object.places ((ref 2) ∷ (ref 3) ∷ []) ∷ [];
   ending = raised_out (ref 1);
   choices = [];
   turns = 0;
@@ -555,10 +574,11 @@ passes_over_a_tuple = refl
 --     except object:
 --         x = 1
 abbrev never_matches_object_module : Module
-never_matches_object_module = record {
-  body = stmt (statement (tree.try (stmt (statement (tree.raise (Some (node (tree.name 0) 2 0)) None) 2) no_stmts) (handler (Some (node (tree.name 1) 3 1)) None (stmt (statement (tree.assign (expr (node (tree.name 2) 4 2) no_exprs) (node (tree.literal (lit.Int false 1)) 4 3)) 4) no_stmts) 3 no_handlers) no_stmts) 1) no_stmts;
-  names = codes "KeyError" ∷ codes "object" ∷ codes "x" ∷ [];
-}
+never_matches_object_module = written (
+    try (
+    · raise (Some (name "KeyError")) None ∷ []) (
+    except (Some (name "object")) None (
+    · set "x" (int 1) ∷ []) end_try) ∷ [])
 
 never_matches_object : answered never_matches_object_module [] 1 (0 ∷ 0 ∷ 0 ∷ 0 ∷ 0 ∷ 0 ∷ []) ([]) ≡ record {
   events = [];
@@ -574,10 +594,10 @@ never_matches_object = refl
 --         x = 1
 --     y = x
 abbrev reads_a_global_without_value_module : Module
-reads_a_global_without_value_module = record {
-  body = stmt (statement (tree.if (arm (node (tree.literal (lit.Int false 0)) 1 0) (stmt (statement (tree.assign (expr (node (tree.name 0) 2 1) no_exprs) (node (tree.literal (lit.Int false 1)) 2 2)) 2) no_stmts) no_arms) no_stmts) 1) (stmt (statement (tree.assign (expr (node (tree.name 1) 3 3) no_exprs) (node (tree.name 0) 3 4)) 3) no_stmts);
-  names = codes "x" ∷ codes "y" ∷ [];
-}
+reads_a_global_without_value_module = written (
+    when (int 0) (
+    · set "x" (int 1) ∷ []) end_if ∷
+    set "y" (name "x") ∷ [])
 
 reads_a_global_without_value : answered reads_a_global_without_value_module [] 0 (0 ∷ []) ([]) ≡ record {
   events = [];
@@ -591,10 +611,8 @@ reads_a_global_without_value = refl
 
 --     x = __name__
 abbrev reads_a_builtin_text_module : Module
-reads_a_builtin_text_module = record {
-  body = stmt (statement (tree.assign (expr (node (tree.name 0) 1 0) no_exprs) (node (tree.name 1) 1 1)) 1) no_stmts;
-  names = codes "x" ∷ codes "__name__" ∷ [];
-}
+reads_a_builtin_text_module = written (
+    set "x" (name "__name__") ∷ [])
 
 reads_a_builtin_text : answered reads_a_builtin_text_module [] 0 (0 ∷ 1 ∷ []) ([]) ≡ record {
   events = event.held 0 (text false) ∷ [];

@@ -6,12 +6,13 @@ use Rattle.builtin_stubs.specs.declared.basic.Basic.TheVariants as kind
 use Rattle.py_tree.specs.declared.literal.Literal.TheVariants as lit
 use Rattle.type_terms.specs.Terms as term
 use Rattle.type_terms.specs.Stubs.{Stub}
-use Rattle.py_tree.specs.Tree as tree
-use Rattle.py_tree.specs.Tree.{Module, node, Exprs, no_exprs, expr, no_bound, bound, no_args, arg, no_pairs, pair, statement, no_stmts, stmt, no_arms, arm, no_handlers, handler, fun_def, class_def, no_members, member}
+use Rattle.py_tree.specs.Tree.{Module}
 use Rattle.py_meaning.specs.Values.{truth, whole, text, ref}
 use Rattle.py_meaning.specs.Objects as object
 use Rattle.py_meaning.specs.Events as event
 use Rattle.py_meaning.specs.Runs.{turns_within, answer, ended, raised_out}
+use Rattle.py_meaning.proofs.Written.{written, ·◌, lower, name, literal, int, compare, attr, item, slice, call, list, pass}
+use Rattle.py_meaning.proofs.Written.{raise, import, taken, from, assign, set, augment, for, try, except, end_try, pass_member, class}
 use Rattle.py_meaning.proofs.Samples.{answered, native, method, error, anything}
 
 -- v: Any, o: object, u: Union[K, KeyError], xs: List[int], d: Dict[str, int], e: Tuple[()]
@@ -20,19 +21,20 @@ abbrev m : Stub
 m = record {
   names = record { name = codes "v"; term = term.any } ∷ record { name = codes "o"; term = term.class (codes "object") }
       ∷ record { name = codes "u"; term = term.union (term.term (term.class (codes "K")) (term.term (term.class (codes "KeyError")) term.no_terms)) }
-      ∷ record { name = codes "xs"; term = term.list term.int } ∷ record { name = codes "d"; term = term.dict term.str term.int } ∷ record { name = codes "e"; term = term.tuple term.no_terms } ∷ [];
+      ∷ record { name = codes "xs"; term = term.list term.int } ∷ record { name = codes "d"; term = term.dict term.str term.int }
+      ∷ record { name = codes "e"; term = term.tuple term.no_terms } ∷ [];
   funs = [];
-  classes = record { name = codes "K"; base = None; names = []; funs = [] } ∷ record { name = codes "Err"; base = Some (codes "KeyError"); names = []; funs = [] } ∷ [];
+  classes = record { name = codes "K"; base = None; names = []; funs = [] }
+      ∷ record { name = codes "Err"; base = Some (codes "KeyError"); names = []; funs = [] } ∷ [];
 }
 
 -- what may be anything may be None
 --     from m import v
 --     x = None is v
 abbrev may_be_none_module : Module
-may_be_none_module = record {
-  body = stmt (statement (tree.from (0 ∷ []) (record { name = 1; alias = None } ∷ [])) 1) (stmt (statement (tree.assign (expr (node (tree.name 2) 2 0) no_exprs) (node (tree.compare cmp.Is (node (tree.literal lit.NoneValue) 2 1) (node (tree.name 1) 2 2)) 2 3)) 2) no_stmts);
-  names = codes "m" ∷ codes "v" ∷ codes "x" ∷ [];
-}
+may_be_none_module = written (
+    from ("m" ∷ []) (taken "v" None ∷ []) ∷
+    set "x" (compare (literal lit.NoneValue) cmp.Is (name "v")) ∷ [])
 
 may_be_none : answered may_be_none_module ((codes "m", m) ∷ []) 0 (0 ∷ 0 ∷ 0 ∷ 0 ∷ []) ([]) ≡ record {
   events = event.held 2 (truth true) ∷ [];
@@ -57,10 +59,9 @@ may_be_another = refl
 --     from m import K
 --     x = K() in [2]
 abbrev is_looked_for_in_a_list_module : Module
-is_looked_for_in_a_list_module = record {
-  body = stmt (statement (tree.from (0 ∷ []) (record { name = 1; alias = None } ∷ [])) 1) (stmt (statement (tree.assign (expr (node (tree.name 2) 2 0) no_exprs) (node (tree.compare cmp.Within (node (tree.call (node (tree.name 1) 2 1) no_args) 2 2) (node (tree.list (expr (node (tree.literal (lit.Int false 2)) 2 3) no_exprs)) 2 4)) 2 5)) 2) no_stmts);
-  names = codes "m" ∷ codes "K" ∷ codes "x" ∷ [];
-}
+is_looked_for_in_a_list_module = written (
+    from ("m" ∷ []) (taken "K" None ∷ []) ∷
+    set "x" (compare (call (name "K") []) cmp.Within (list (int 2 ∷ []))) ∷ [])
 
 is_looked_for_in_a_list : answered is_looked_for_in_a_list_module ((codes "m", m) ∷ []) 1 (0 ∷ 0 ∷ 0 ∷ 0 ∷ 0 ∷ []) ([]) ≡ record {
   events = event.held 2 (truth true) ∷ [];
@@ -78,10 +79,11 @@ is_looked_for_in_a_list = refl
 --         pass
 --     x = isinstance(C(), K)
 abbrev may_be_of_a_stub_class_module : Module
-may_be_of_a_stub_class_module = record {
-  body = stmt (statement (tree.from (0 ∷ []) (record { name = 1; alias = None } ∷ [])) 1) (stmt (statement (tree.class (class_def 0 2 None (member tree.pass_member no_members) 2)) 2) (stmt (statement (tree.assign (expr (node (tree.name 3) 4 0) no_exprs) (node (tree.call (node (tree.name 4) 4 1) (arg None (node (tree.call (node (tree.name 2) 4 2) no_args) 4 3) (arg None (node (tree.name 1) 4 4) no_args))) 4 5)) 4) no_stmts));
-  names = codes "m" ∷ codes "K" ∷ codes "C" ∷ codes "x" ∷ codes "isinstance" ∷ [];
-}
+may_be_of_a_stub_class_module = written (
+    from ("m" ∷ []) (taken "K" None ∷ []) ∷
+    class "C" None (
+    · pass_member ∷ []) ∷
+    set "x" (call (name "isinstance") (call (name "C") [] ∷ name "K" ∷ [])) ∷ [])
 
 may_be_of_a_stub_class : answered may_be_of_a_stub_class_module ((codes "m", m) ∷ []) 2 (0 ∷ 0 ∷ 0 ∷ 0 ∷ 0 ∷ 0 ∷ 0 ∷ []) ([]) ≡ record {
   events = event.held 3 (truth true) ∷ [];
@@ -109,10 +111,12 @@ may_be_of_no_stub_class = refl
 --     except Err:
 --         x = 1
 abbrev catches_a_stub_exception_module : Module
-catches_a_stub_exception_module = record {
-  body = stmt (statement (tree.from (0 ∷ []) (record { name = 1; alias = None } ∷ [])) 1) (stmt (statement (tree.try (stmt (statement (tree.raise (Some (node (tree.call (node (tree.name 1) 3 0) no_args) 3 1)) None) 3) no_stmts) (handler (Some (node (tree.name 1) 4 2)) None (stmt (statement (tree.assign (expr (node (tree.name 2) 5 3) no_exprs) (node (tree.literal (lit.Int false 1)) 5 4)) 5) no_stmts) 4 no_handlers) no_stmts) 2) no_stmts);
-  names = codes "m" ∷ codes "Err" ∷ codes "x" ∷ [];
-}
+catches_a_stub_exception_module = written (
+    from ("m" ∷ []) (taken "Err" None ∷ []) ∷
+    try (
+    · raise (Some (call (name "Err") [])) None ∷ []) (
+    except (Some (name "Err")) None (
+    · set "x" (int 1) ∷ []) end_try) ∷ [])
 
 catches_a_stub_exception : answered catches_a_stub_exception_module ((codes "m", m) ∷ []) 1 (0 ∷ 0 ∷ 0 ∷ 0 ∷ 0 ∷ 0 ∷ 0 ∷ []) ([]) ≡ record {
   events = event.held 2 (whole (pos 1)) ∷ [];
@@ -130,10 +134,12 @@ catches_a_stub_exception = refl
 --     except LookupError:
 --         x = 1
 abbrev catches_a_stub_exception_by_a_base_module : Module
-catches_a_stub_exception_by_a_base_module = record {
-  body = stmt (statement (tree.from (0 ∷ []) (record { name = 1; alias = None } ∷ [])) 1) (stmt (statement (tree.try (stmt (statement (tree.raise (Some (node (tree.call (node (tree.name 1) 3 0) no_args) 3 1)) None) 3) no_stmts) (handler (Some (node (tree.name 2) 4 2)) None (stmt (statement (tree.assign (expr (node (tree.name 3) 5 3) no_exprs) (node (tree.literal (lit.Int false 1)) 5 4)) 5) no_stmts) 4 no_handlers) no_stmts) 2) no_stmts);
-  names = codes "m" ∷ codes "Err" ∷ codes "LookupError" ∷ codes "x" ∷ [];
-}
+catches_a_stub_exception_by_a_base_module = written (
+    from ("m" ∷ []) (taken "Err" None ∷ []) ∷
+    try (
+    · raise (Some (call (name "Err") [])) None ∷ []) (
+    except (Some (name "LookupError")) None (
+    · set "x" (int 1) ∷ []) end_try) ∷ [])
 
 catches_a_stub_exception_by_a_base : answered catches_a_stub_exception_by_a_base_module ((codes "m", m) ∷ []) 1 (0 ∷ 0 ∷ 0 ∷ 0 ∷ 0 ∷ 0 ∷ 0 ∷ []) ([]) ≡ record {
   events = event.held 3 (whole (pos 1)) ∷ [];
@@ -149,10 +155,9 @@ catches_a_stub_exception_by_a_base = refl
 --     from m import u
 --     x = u
 abbrev a_union_in_order_module : Module
-a_union_in_order_module = record {
-  body = stmt (statement (tree.from (0 ∷ []) (record { name = 1; alias = None } ∷ [])) 1) (stmt (statement (tree.assign (expr (node (tree.name 2) 2 0) no_exprs) (node (tree.name 1) 2 1)) 2) no_stmts);
-  names = codes "m" ∷ codes "u" ∷ codes "x" ∷ [];
-}
+a_union_in_order_module = written (
+    from ("m" ∷ []) (taken "u" None ∷ []) ∷
+    set "x" (name "u") ∷ [])
 
 a_union_in_order : answered a_union_in_order_module ((codes "m", m) ∷ []) 0 (0 ∷ 0 ∷ 0 ∷ []) ([]) ≡ record {
   events = event.held 2 (ref 0) ∷ [];
@@ -177,10 +182,9 @@ the_last_of_a_union = refl
 --     from m import o
 --     x = o.z
 abbrev object_may_be_anything_module : Module
-object_may_be_anything_module = record {
-  body = stmt (statement (tree.from (0 ∷ []) (record { name = 1; alias = None } ∷ [])) 1) (stmt (statement (tree.assign (expr (node (tree.name 2) 2 0) no_exprs) (node (tree.attr (node (tree.name 1) 2 1) 3) 2 2)) 2) no_stmts);
-  names = codes "m" ∷ codes "o" ∷ codes "x" ∷ codes "z" ∷ [];
-}
+object_may_be_anything_module = written (
+    from ("m" ∷ []) (taken "o" None ∷ []) ∷
+    set "x" (attr (name "o") "z") ∷ [])
 
 object_may_be_anything : answered object_may_be_anything_module ((codes "m", m) ∷ []) 0 (0 ∷ 0 ∷ 0 ∷ []) ([]) ≡ record {
   events = event.held 2 (ref 1) ∷ [];
@@ -195,10 +199,9 @@ object_may_be_anything = refl
 --     from m import d
 --     d[1] = 2
 abbrev forgets_what_is_stored_module : Module
-forgets_what_is_stored_module = record {
-  body = stmt (statement (tree.from (0 ∷ []) (record { name = 1; alias = None } ∷ [])) 1) (stmt (statement (tree.assign (expr (node (tree.item (node (tree.name 1) 2 0) (node (tree.literal (lit.Int false 1)) 2 1)) 2 2) no_exprs) (node (tree.literal (lit.Int false 2)) 2 3)) 2) no_stmts);
-  names = codes "m" ∷ codes "d" ∷ [];
-}
+forgets_what_is_stored_module = written (
+    from ("m" ∷ []) (taken "d" None ∷ []) ∷
+    assign (item (name "d") (int 1) ∷ []) (int 2) ∷ [])
 
 forgets_what_is_stored : answered forgets_what_is_stored_module ((codes "m", m) ∷ []) 0 (0 ∷ 0 ∷ 0 ∷ []) ([]) ≡ record {
   events = [];
@@ -214,10 +217,9 @@ forgets_what_is_stored = refl
 --     from m import xs
 --     xs += 3
 abbrev forgets_what_is_added_module : Module
-forgets_what_is_added_module = record {
-  body = stmt (statement (tree.from (0 ∷ []) (record { name = 1; alias = None } ∷ [])) 1) (stmt (statement (tree.augment (node (tree.name 1) 2 0) bin.Add (node (tree.literal (lit.Int false 3)) 2 1)) 2) no_stmts);
-  names = codes "m" ∷ codes "xs" ∷ [];
-}
+forgets_what_is_added_module = written (
+    from ("m" ∷ []) (taken "xs" None ∷ []) ∷
+    augment (name "xs") bin.Add (int 3) ∷ [])
 
 forgets_what_is_added : answered forgets_what_is_added_module ((codes "m", m) ∷ []) 0 (0 ∷ 0 ∷ 0 ∷ []) ([]) ≡ record {
   events = event.held 1 (ref 0) ∷ [];
@@ -233,10 +235,10 @@ forgets_what_is_added = refl
 --     for x in e:
 --         pass
 abbrev an_empty_tuple_has_no_element_module : Module
-an_empty_tuple_has_no_element_module = record {
-  body = stmt (statement (tree.from (0 ∷ []) (record { name = 1; alias = None } ∷ [])) 1) (stmt (statement (tree.for (node (tree.name 2) 2 0) (node (tree.name 1) 2 1) (stmt (statement tree.pass 3) no_stmts)) 2) no_stmts);
-  names = codes "m" ∷ codes "e" ∷ codes "x" ∷ [];
-}
+an_empty_tuple_has_no_element_module = written (
+    from ("m" ∷ []) (taken "e" None ∷ []) ∷
+    for (name "x") (name "e") (
+    · pass ∷ []) ∷ [])
 
 an_empty_tuple_has_no_element : answered an_empty_tuple_has_no_element_module ((codes "m", m) ∷ []) 0 (0 ∷ 0 ∷ 0 ∷ []) ([]) ≡ record {
   events = [];
@@ -251,10 +253,9 @@ an_empty_tuple_has_no_element = refl
 --     from m import xs
 --     xs *= 3
 abbrev forgets_what_is_multiplied_module : Module
-forgets_what_is_multiplied_module = record {
-  body = stmt (statement (tree.from (0 ∷ []) (record { name = 1; alias = None } ∷ [])) 1) (stmt (statement (tree.augment (node (tree.name 1) 2 0) bin.Mul (node (tree.literal (lit.Int false 3)) 2 1)) 2) no_stmts);
-  names = codes "m" ∷ codes "xs" ∷ [];
-}
+forgets_what_is_multiplied_module = written (
+    from ("m" ∷ []) (taken "xs" None ∷ []) ∷
+    augment (name "xs") bin.Mul (int 3) ∷ [])
 
 forgets_what_is_multiplied : answered forgets_what_is_multiplied_module ((codes "m", m) ∷ []) 0 (0 ∷ 0 ∷ 0 ∷ []) ([]) ≡ record {
   events = event.held 1 (ref 0) ∷ [];
@@ -270,10 +271,9 @@ forgets_what_is_multiplied = refl
 --     from m import e
 --     x = e[:]
 abbrev slices_have_no_places_module : Module
-slices_have_no_places_module = record {
-  body = stmt (statement (tree.from (0 ∷ []) (record { name = 1; alias = None } ∷ [])) 1) (stmt (statement (tree.assign (expr (node (tree.name 2) 2 0) no_exprs) (node (tree.slice (node (tree.name 1) 2 1) no_bound no_bound no_bound) 2 2)) 2) no_stmts);
-  names = codes "m" ∷ codes "e" ∷ codes "x" ∷ [];
-}
+slices_have_no_places_module = written (
+    from ("m" ∷ []) (taken "e" None ∷ []) ∷
+    set "x" (slice (name "e") None None None) ∷ [])
 
 slices_have_no_places : answered slices_have_no_places_module ((codes "m", m) ∷ []) 0 (0 ∷ 0 ∷ 0 ∷ []) ([]) ≡ record {
   events = event.held 2 (ref 1) ∷ [];
@@ -289,10 +289,8 @@ slices_have_no_places = refl
 --     (
 --     int).z += 1
 abbrev misses_at_the_target_module : Module
-misses_at_the_target_module = record {
-  body = stmt (statement (tree.augment (node (tree.attr (node (tree.name 0) 2 0) 1) 2 1) bin.Add (node (tree.literal (lit.Int false 1)) 2 2)) 1) no_stmts;
-  names = codes "int" ∷ codes "z" ∷ [];
-}
+misses_at_the_target_module = written (
+    augment (attr (lower (name "int")) "z") bin.Add (int 1) ∷ [])
 
 misses_at_the_target : answered misses_at_the_target_module [] 0 (0 ∷ 0 ∷ 0 ∷ 0 ∷ []) ([]) ≡ record {
   events = event.fault 2 event.attribute_error event.on_another (Some 1) ∷ [];
@@ -308,11 +306,9 @@ misses_at_the_target = refl
 --     from m import d
 --     y = d.copy()
 abbrev copies_what_is_declared_module : Module
-copies_what_is_declared_module = record {
-  body = stmt (statement (tree.from (0 ∷ []) (record { name = 1; alias = None } ∷ [])) 1)
-      (stmt (statement (tree.assign (expr (node (tree.name 2) 2 0) no_exprs) (node (tree.call (node (tree.attr (node (tree.name 1) 2 1) 3) 2 2) no_args) 2 3)) 2) no_stmts);
-  names = codes "m" ∷ codes "d" ∷ codes "y" ∷ codes "copy" ∷ [];
-}
+copies_what_is_declared_module = written (
+    from ("m" ∷ []) (taken "d" None ∷ []) ∷
+    set "y" (call (attr (name "d") "copy") []) ∷ [])
 
 copies_what_is_declared : answered copies_what_is_declared_module ((codes "m", m) ∷ []) 1 (0 ∷ 0 ∷ 0 ∷ 0 ∷ 0 ∷ 7 ∷ []) ([]) ≡ record {
   events = event.held 2 (ref 2) ∷ [];
@@ -328,15 +324,14 @@ copies_what_is_declared = refl
 --     from m import K
 --     x = isinstance(K(), int)
 abbrev may_be_an_int_module : Module
-may_be_an_int_module = record {
-  body = stmt (statement (tree.from (0 ∷ []) (record { name = 1; alias = None } ∷ [])) 1)
-      (stmt (statement (tree.assign (expr (node (tree.name 2) 2 0) no_exprs) (node (tree.call (node (tree.name 3) 2 1) (arg None (node (tree.call (node (tree.name 1) 2 2) no_args) 2 3) (arg None (node (tree.name 4) 2 4) no_args))) 2 5)) 2) no_stmts);
-  names = codes "m" ∷ codes "K" ∷ codes "x" ∷ codes "isinstance" ∷ codes "int" ∷ [];
-}
+may_be_an_int_module = written (
+    from ("m" ∷ []) (taken "K" None ∷ []) ∷
+    set "x" (call (name "isinstance") (call (name "K") [] ∷ name "int" ∷ [])) ∷ [])
 
 may_be_an_int : answered may_be_an_int_module ((codes "m", m) ∷ []) 2 (0 ∷ 0 ∷ 0 ∷ 0 ∷ 0 ∷ 0 ∷ 0 ∷ []) ([]) ≡ record {
   events = event.held 2 (truth true) ∷ [];
-  heap = object.foreign (object.stub_class (codes "m") (codes "K")) ∷ native (codes "isinstance") ∷ object.outside (term.class (codes "m.K")) ∷ native (codes "int") ∷ [];
+  heap = object.foreign (object.stub_class (codes "m") (codes "K")) ∷ native (codes "isinstance")
+      ∷ object.outside (term.class (codes "m.K")) ∷ native (codes "int") ∷ [];
   ending = ended;
   choices = [];
   turns = 0;
@@ -348,10 +343,9 @@ may_be_an_int = refl
 --     import a.b
 --     x = a
 abbrev binds_the_first_name_module : Module
-binds_the_first_name_module = record {
-  body = stmt (statement (tree.import (record { path = 0 ∷ 1 ∷ []; alias = None } ∷ [])) 1) (stmt (statement (tree.assign (expr (node (tree.name 2) 2 0) no_exprs) (node (tree.name 0) 2 1)) 2) no_stmts);
-  names = codes "a" ∷ codes "b" ∷ codes "x" ∷ [];
-}
+binds_the_first_name_module = written (
+    import ("a" ∷ "b" ∷ []) None ∷
+    set "x" (name "a") ∷ [])
 
 binds_the_first_name : answered binds_the_first_name_module [] 0 (0 ∷ 0 ∷ []) ([]) ≡ record {
   events = event.held 2 (ref 0) ∷ [];
@@ -368,12 +362,10 @@ binds_the_first_name = refl
 --     x = []
 --     x += v
 abbrev takes_items_of_anything_module : Module
-takes_items_of_anything_module = record {
-  body = stmt (statement (tree.from (0 ∷ []) (record { name = 1; alias = None } ∷ [])) 1)
-      (stmt (statement (tree.assign (expr (node (tree.name 2) 2 0) no_exprs) (node (tree.list no_exprs) 2 1)) 2)
-      (stmt (statement (tree.augment (node (tree.name 2) 3 2) bin.Add (node (tree.name 1) 3 3)) 3) no_stmts));
-  names = codes "m" ∷ codes "v" ∷ codes "x" ∷ [];
-}
+takes_items_of_anything_module = written (
+    from ("m" ∷ []) (taken "v" None ∷ []) ∷
+    set "x" (list []) ∷
+    augment (name "x") bin.Add (name "v") ∷ [])
 
 takes_items_of_anything : answered takes_items_of_anything_module ((codes "m", m) ∷ []) 0 (0 ∷ 0 ∷ 0 ∷ 0 ∷ 0 ∷ 1 ∷ []) ([]) ≡ record {
   events = event.held 2 (ref 1) ∷ [];
@@ -389,10 +381,9 @@ takes_items_of_anything = refl
 --     from m import v
 --     raise v
 abbrev raises_anything_module : Module
-raises_anything_module = record {
-  body = stmt (statement (tree.from (0 ∷ []) (record { name = 1; alias = None } ∷ [])) 1) (stmt (statement (tree.raise (Some (node (tree.name 1) 2 0)) None) 2) no_stmts);
-  names = codes "m" ∷ codes "v" ∷ [];
-}
+raises_anything_module = written (
+    from ("m" ∷ []) (taken "v" None ∷ []) ∷
+    raise (Some (name "v")) None ∷ [])
 
 raises_anything : answered raises_anything_module ((codes "m", m) ∷ []) 0 (0 ∷ 0 ∷ 0 ∷ 0 ∷ []) ([]) ≡ record {
   events = [];
