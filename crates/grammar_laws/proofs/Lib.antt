@@ -3,3 +3,4 @@ mod StatementShapes
 mod Cleans
 mod FirstLocals
 mod Formed
+mod OneTree

@@ -1,4 +1,4 @@
-//! What trees have that the grammar gives and that break no static rule.
+//! What trees have that the grammar gives, and that no tokens have two of them.
 #![tactic(auto)]
 
 pub mod laws;
