@@ -1,0 +1,7 @@
+pub mod Lists
+pub mod Numbers
+mod Ending
+mod Seeing
+mod Classless
+mod Printing
+mod StubRows
