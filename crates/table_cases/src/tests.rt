@@ -1,0 +1,3 @@
+//! What the calls answer where memory is ample.
+mod queries;
+mod tables;
